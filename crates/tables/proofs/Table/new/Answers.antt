@@ -1,0 +1,8 @@
+use native.Mathlib.Omega.{arith}
+use lib.ListN.{length-replicate}
+use Rattle.tables.proofs.Table.new.Needs as need
+
+pub ghost-result : need.ghost-result
+ghost-result g c =
+    let e = length-replicate (g .N) (c .args .blank) in
+    (omega arith, (e, tt))

@@ -1,0 +1,4 @@
+// The terms of the trade that every crate above speaks in: records, the balance of a contract, and refusals.
+pub mod balance;
+pub mod records;
+pub mod refusal;
