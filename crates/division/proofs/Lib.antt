@@ -1,3 +1,4 @@
 pub mod Admitting
 pub mod Turns
 pub mod Proportions
+pub mod Signs

@@ -16,6 +16,7 @@ use terms::refusal::Refusal;
 
 pub mod pro_rata;
 pub mod ranking;
+pub mod signed;
 
 // What any division rule takes at most: so many claims, so many kWh to divide, and claims that come to so many kWh.
 pub const MOST_CLAIMS: usize = 256;
