@@ -2,3 +2,4 @@ pub mod Limits
 pub mod Rules
 pub mod Nearness
 pub mod Signed
+pub mod Terms
