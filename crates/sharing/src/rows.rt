@@ -68,3 +68,17 @@ pub(crate) fn give_out<R: DivisionRule, T: Owned>(rule: &R, claims: &[u64], rows
     }
     scatter(rows, owner, parts, figures);
 }
+
+// Shares a whole out by the rule among the owner's rows, by what they carry.
+// Callers are proved to stay inside the limits, so that the division is not refused.
+pub fn share_out<R: DivisionRule, T: Carries>(rule: &R, rows: &[T], owner: u32, whole: i64, figures: &mut [i64])
+    requires few { ⌜ length (now rows) ≤ 256 ⌝ }
+    requires light { ⌜ sum (claimsOf (T·Owned .owned) (T·Carries .carried) owner (now rows)) ≤ 6144000000 ⌝ }
+    requires small { ⌜ natAbs whole ≤ 128000000 ⌝ }
+    requires room { ⌜ length (now figures) ≡ length (now rows) ⌝ }
+    ensures value { λ _. ⌜ now (figures .exit) ≡ shared (R·DivisionRule .parts (now (rule .entry))) (T·Owned .owned) (T·Carries .carried) owner whole (now (rows .entry)) (now (figures .entry)) ⌝ }
+    ensures placed { λ _. ⌜ SharedOut (R·DivisionRule .parts (now (rule .entry))) (T·Owned .owned) (T·Carries .carried) owner whole (now (rows .entry)) (now (figures .entry)) (now (figures .exit)) ⌝ }
+{
+    let claims = gather(rows, owner);
+    give_out(rule, claims.as_slice(), rows, owner, whole, figures);
+}
