@@ -14,9 +14,9 @@ use Rattle.std.proofs.shelf.Tests.{eq-eqb, ne-eqb, eqb-true, cond-true, cond-fa
 use Rattle.tables.specs.Carried.{claimsOf}
 use Rattle.tables.proofs.Carrying.{sum-cons}
 use Rattle.division.specs.Terms.{Keeps}
-use Rattle.sharing.specs.Owners.{countOf, placeOf, sumOf, partsFor, shared}
+use Rattle.sharing.specs.Owners.{countOf, figuresOf, addedUp, partsFor, shared}
 use Rattle.sharing.specs.Levels.{Apart, claimOf, headFigures, memberFigures, SharedOnLevels}
-use Rattle.sharing.proofs.Placing.{length-shared, shared-out, shared-adds, shared-keeps, shared-mine, shared-others}
+use Rattle.sharing.proofs.Placing.{length-shared, shared-out, shared-parts, parts-add, shared-keeps, figures-others}
 
 -- what one owner's rows carry is no more than what all carry
 pub claims-within : {T : Type 0} (owned carried : T → ℕ) (o : ℕ) (rows : List T) → sum (claimsOf owned carried o rows) ≤ sumBy carried rows
@@ -137,38 +137,43 @@ module _ {H M : Type 0} (rule : ℕ → List ℕ → List ℕ) (keeps : Keeps ru
   length-after (h ∷ hs) [] xs = refl
   length-after (h ∷ hs) (p ∷ ps) xs = length-after hs ps (one h p xs) ∙ length-one h p xs
 
-  -- a number that none of the owner's heads has keeps its members' sum
-  pub after-others : (n : ℕ) (hs : List H) (ps xs : List ℤ) → length xs ≡ length members → All (λ h. owned h ≡ o → numbered h ≡ n → ⊥) hs → sumOf belongs n members (after hs ps xs) ≡ sumOf belongs n members xs
+  -- a number that none of the owner's heads has keeps its members' figures
+  after-others : (n : ℕ) (hs : List H) (ps xs : List ℤ) → length xs ≡ length members → All (λ h. owned h ≡ o → numbered h ≡ n → ⊥) hs → figuresOf belongs n members (after hs ps xs) ≡ figuresOf belongs n members xs
   after-others n [] ps xs l a = refl
   after-others n (h ∷ hs) [] xs l a = refl
   after-others n (h ∷ hs) (p ∷ ps) xs l a =
       after-others n hs ps (one h p xs) (length-one h p xs ∙ l) (a .1) ∙ go (eqb (owned h) o) refl
     where
-      go : (b : Bool) → eqb (owned h) o ≡ b → sumOf belongs n members (cond b (shared rule belongs carried (numbered h) p members xs) xs) ≡ sumOf belongs n members xs
-      go true t = shared-others rule keeps belongs carried (numbered h) n p members xs l (λ e. a .0 (eqb-true (owned h) o t) (sym e))
+      go : (b : Bool) → eqb (owned h) o ≡ b → figuresOf belongs n members (cond b (shared rule belongs carried (numbered h) p members xs) xs) ≡ figuresOf belongs n members xs
+      go true t = figures-others rule keeps belongs carried (numbered h) n p members xs l (λ e. a .0 (eqb-true (owned h) o t) (sym e))
       go false t = refl
 
   free : (n : ℕ) (hs : List H) → All (λ k. numbered k ≡ n → ⊥) hs → All (λ h. owned h ≡ o → numbered h ≡ n → ⊥) hs
   free n [] a = tt
   free n (h ∷ hs) a = ((λ m. a .0), free n hs (a .1))
 
-  -- the members of each of the owner's heads come to the head's part
-  pub after-adds : (hs : List H) (ps xs : List ℤ) → length xs ≡ length members → length ps ≡ length hs → Apart numbered hs →
-      (k : ℕ) (h : H) → k < length hs → h ≡ getD hs k h → owned h ≡ o → 1 ≤ countOf belongs (numbered h) members → sumOf belongs (numbered h) members (after hs ps xs) ≡ getD ps k (pos 0)
-  after-adds [] ps xs l q a k h lt e m some = absurd (omega arith)
-  after-adds (g ∷ hs) [] xs l q a k h lt e m some = absurd (omega arith)
-  after-adds (g ∷ hs) (p ∷ ps) xs l q a zero h lt e m some =
+  -- the figures of the members of each of the owner's heads are the parts of the head's figure
+  pub after-parts : (hs : List H) (ps xs : List ℤ) → length xs ≡ length members → length ps ≡ length hs → Apart numbered hs →
+      (k : ℕ) (h : H) → k < length hs → h ≡ getD hs k h → owned h ≡ o →
+      figuresOf belongs (numbered h) members (after hs ps xs) ≡ partsFor rule belongs carried (numbered h) (getD ps k (pos 0)) members
+  after-parts [] ps xs l q a k h lt e m = absurd (omega arith)
+  after-parts (g ∷ hs) [] xs l q a k h lt e m = absurd (omega arith)
+  after-parts (g ∷ hs) (p ∷ ps) xs l q a zero h lt e m =
       let n : numbered h ≡ numbered g = ap numbered e in
       let t : eqb (owned g) o ≡ true = eq-eqb (owned g) o (ap owned (sym e) ∙ m) in
-      let ys : List ℤ = shared rule belongs carried (numbered g) p members xs in
-      let is : one g p xs ≡ ys = cond-true _ _ _ t in
-      let some′ : 1 ≤ countOf belongs (numbered g) members = subst (λ (i : ℕ). 1 ≤ countOf belongs i members) n some in
-      ap (λ i. sumOf belongs i members (after hs ps (one g p xs))) n
+      ap (λ i. figuresOf belongs i members (after hs ps (one g p xs))) n
       ∙ after-others (numbered g) hs ps (one g p xs) (length-one g p xs ∙ l) (free (numbered g) hs (a .0))
-      ∙ ap (sumOf belongs (numbered g) members) is
-      ∙ shared-adds rule keeps belongs carried (numbered g) p members xs l some′
-  after-adds (g ∷ hs) (p ∷ ps) xs l q a (suc k) h lt e m some =
-      after-adds hs ps (one g p xs) (length-one g p xs ∙ l) (omega arith) (a .1) k h (omega arith) e m some
+      ∙ ap (figuresOf belongs (numbered g) members) (cond-true _ _ _ t)
+      ∙ shared-parts rule keeps belongs carried (numbered g) p members xs l
+      ∙ sym (ap (λ i. partsFor rule belongs carried i p members) n)
+  after-parts (g ∷ hs) (p ∷ ps) xs l q a (suc k) h lt e m =
+      after-parts hs ps (one g p xs) (length-one g p xs ∙ l) (omega arith) (a .1) k h (omega arith) e m
+
+  -- and come to the head's figure
+  pub after-adds : (hs : List H) (ps xs : List ℤ) → length xs ≡ length members → length ps ≡ length hs → Apart numbered hs →
+      (k : ℕ) (h : H) → k < length hs → h ≡ getD hs k h → owned h ≡ o → 1 ≤ countOf belongs (numbered h) members → addedUp (figuresOf belongs (numbered h) members (after hs ps xs)) ≡ getD ps k (pos 0)
+  after-adds hs ps xs l q a k h lt e m some =
+      ap addedUp (after-parts hs ps xs l q a k h lt e m) ∙ parts-add rule keeps belongs carried (numbered h) (getD ps k (pos 0)) members some
 
   -- a member of none of the owner's heads keeps its figure
   pub after-keeps : (hs : List H) (ps xs : List ℤ) (i : ℕ) (m : M) → i < length members → m ≡ getD members i m → All (λ h. owned h ≡ o → numbered h ≡ belongs m → ⊥) hs → getD (after hs ps xs) i (pos 0) ≡ getD xs i (pos 0)
@@ -179,26 +184,6 @@ module _ {H M : Type 0} (rule : ℕ → List ℕ → List ℕ) (keeps : Keeps ru
       go : (b : Bool) → eqb (owned h) o ≡ b → getD (cond b (shared rule belongs carried (numbered h) p members xs) xs) i (pos 0) ≡ getD xs i (pos 0)
       go true t = shared-keeps rule keeps belongs carried (numbered h) p members xs i m l e (λ z. a .0 (eqb-true (owned h) o t) (sym z))
       go false t = refl
-
-  widen : (n q : ℕ) → q ≡ n → (hs : List H) → All (λ k. numbered k ≡ n → ⊥) hs → All (λ h. owned h ≡ o → numbered h ≡ q → ⊥) hs
-  widen n q z [] a = tt
-  widen n q z (h ∷ hs) a = ((λ m e. a .0 (e ∙ z)), widen n q z hs (a .1))
-
-  -- a member of one of the owner's heads has the part at its place among the head's members
-  pub after-mine : (hs : List H) (ps xs : List ℤ) → length xs ≡ length members → length ps ≡ length hs → Apart numbered hs →
-      (k : ℕ) (h : H) → k < length hs → h ≡ getD hs k h → owned h ≡ o → (i : ℕ) (m : M) → i < length members → m ≡ getD members i m → belongs m ≡ numbered h →
-      getD (after hs ps xs) i (pos 0) ≡ getD (partsFor rule belongs carried (numbered h) (getD ps k (pos 0)) members) (placeOf belongs (numbered h) members i) (pos 0)
-  after-mine [] ps xs l q a k h lt e m i b li ei z = absurd (omega arith)
-  after-mine (g ∷ hs) [] xs l q a k h lt e m i b li ei z = absurd (omega arith)
-  after-mine (g ∷ hs) (p ∷ ps) xs l q a zero h lt e m i b li ei z =
-      let n : numbered h ≡ numbered g = ap numbered e in
-      let t : eqb (owned g) o ≡ true = eq-eqb (owned g) o (ap owned (sym e) ∙ m) in
-      after-keeps hs ps (one g p xs) i b li ei (widen (numbered g) (belongs b) (z ∙ n) hs (a .0))
-      ∙ ap (λ q. getD q i (pos 0)) (cond-true _ _ _ t)
-      ∙ shared-mine rule keeps belongs carried (numbered g) p members xs l i b li ei (z ∙ n)
-      ∙ sym (ap (λ j. getD (partsFor rule belongs carried j p members) (placeOf belongs j members i) (pos 0)) n)
-  after-mine (g ∷ hs) (p ∷ ps) xs l q a (suc k) h lt e m i b li ei z =
-      after-mine hs ps (one g p xs) (length-one g p xs ∙ l) (omega arith) (a .1) k h (omega arith) e m i b li ei z
 
 -- What the two levels do, by two rules that keep their terms.
 module _ {H M : Type 0} (first second : ℕ → List ℕ → List ℕ) (keeps1 : Keeps first) (keeps2 : Keeps second) (owned numbered : H → ℕ) (belongs carried : M → ℕ) (o : ℕ) (w : ℤ)
@@ -211,7 +196,7 @@ module _ {H M : Type 0} (first second : ℕ → List ℕ → List ℕ) (keeps1 :
       let ln : length new-heads ≡ length heads = ap length eh ∙ length-shared first owned (claimOf numbered belongs carried members) o w heads old-heads ∙ lh in
       record {
         heads-shared = shared-out first keeps1 owned (claimOf numbered belongs carried members) o w heads old-heads new-heads lh eh;
-        mine = λ k h lt e m i b li ei z. ap (λ ys. getD ys i (pos 0)) em ∙ after-mine second keeps2 owned numbered belongs carried o members heads new-heads old-members lm ln apart k h lt e m i b li ei z;
+        parts = λ k h lt e m. ap (figuresOf belongs (numbered h) members) em ∙ after-parts second keeps2 owned numbered belongs carried o members heads new-heads old-members lm ln apart k h lt e m;
         others = λ i b li ei a. ap (λ ys. getD ys i (pos 0)) em ∙ after-keeps second keeps2 owned numbered belongs carried o members heads new-heads old-members i b li ei a;
-        adds = λ k h lt e m some. ap (sumOf belongs (numbered h) members) em ∙ after-adds second keeps2 owned numbered belongs carried o members heads new-heads old-members lm ln apart k h lt e m some;
+        adds = λ k h lt e m some. ap (λ ys. addedUp (figuresOf belongs (numbered h) members ys)) em ∙ after-adds second keeps2 owned numbered belongs carried o members heads new-heads old-members lm ln apart k h lt e m some;
       }

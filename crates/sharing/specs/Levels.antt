@@ -9,7 +9,7 @@ use lib.IntN.{ℤ, pos, natAbs}
 use lib.ListN.{length, getD}
 use Rattle.std.specs.shelf.Lists.{sum, All}
 use Rattle.tables.specs.Carried.{claimsOf}
-use Rattle.sharing.specs.Owners.{countOf, placeOf, sumOf, partsFor, shared, SharedOut}
+use Rattle.sharing.specs.Owners.{countOf, figuresOf, addedUp, partsFor, shared, SharedOut}
 
 -- No two heads have one number.
 abbrev pub Apart : {H : Type 0} → (H → ℕ) → List H → Type 0
@@ -41,13 +41,12 @@ pub record SharedOnLevels {H M : Type 0} (first second : ℕ → List ℕ → Li
     (heads : List H) (members : List M) (heads-before heads-after members-before members-after : List ℤ) : Type 0 where
   -- the whole is shared out among the owner's heads by the first rule, a head claiming what its members carry together
   pub heads-shared : SharedOut first owned (claimOf numbered belongs carried members) owner whole heads heads-before heads-after
-  -- a member of one of the owner's heads has the second rule's part of the head's figure, at its place among the head's members
-  pub mine : (k : ℕ) (h : H) → k < length heads → h ≡ getD heads k h → owned h ≡ owner →
-      (i : ℕ) (m : M) → i < length members → m ≡ getD members i m → belongs m ≡ numbered h →
-      getD members-after i (pos 0) ≡ getD (partsFor second belongs carried (numbered h) (getD heads-after k (pos 0)) members) (placeOf belongs (numbered h) members i) (pos 0)
+  -- the figures of the members of each of the owner's heads are the second rule's parts of the head's figure, in listed order
+  pub parts : (k : ℕ) (h : H) → k < length heads → h ≡ getD heads k h → owned h ≡ owner →
+      figuresOf belongs (numbered h) members members-after ≡ partsFor second belongs carried (numbered h) (getD heads-after k (pos 0)) members
   -- a member of none of the owner's heads keeps its figure
   pub others : (i : ℕ) (m : M) → i < length members → m ≡ getD members i m → All (λ h. owned h ≡ owner → numbered h ≡ belongs m → ⊥) heads →
       getD members-after i (pos 0) ≡ getD members-before i (pos 0)
   -- the members of each of the owner's heads come to the head's figure
   pub adds : (k : ℕ) (h : H) → k < length heads → h ≡ getD heads k h → owned h ≡ owner → 1 ≤ countOf belongs (numbered h) members →
-      sumOf belongs (numbered h) members members-after ≡ getD heads-after k (pos 0)
+      addedUp (figuresOf belongs (numbered h) members members-after) ≡ getD heads-after k (pos 0)

@@ -5,7 +5,7 @@ use mathlib.Core.Path.{_≡_}
 use Prim.Native.Nat.{ℕ, _+_, _≤_, _<_}
 use lib.Dec.{eqb}
 use lib.IntN.{ℤ, pos, _+ℤ_, natAbs}
-use lib.ListN.{length, getD, take, drop}
+use lib.ListN.{length, getD, drop}
 use Rattle.tables.specs.Carried.{claimsOf}
 use Rattle.division.specs.Signed.{signedParts}
 
@@ -14,15 +14,16 @@ abbrev pub countOf : {T : Type 0} → (T → ℕ) → ℕ → List T → ℕ
 countOf owned owner [] = 0
 countOf owned owner (r ∷ rs) = cond (eqb (owned r) owner) 1 0 + countOf owned owner rs
 
--- The place of the k-th row among its owner's rows: how many of them stand before it.
-abbrev pub placeOf : {T : Type 0} → (T → ℕ) → ℕ → List T → ℕ → ℕ
-placeOf owned owner rows k = countOf owned owner (take k rows)
+-- The figures of the owner's rows, in listed order, where every row has a figure.
+abbrev pub figuresOf : {T : Type 0} → (T → ℕ) → ℕ → List T → List ℤ → List ℤ
+figuresOf owned owner [] figures = []
+figuresOf owned owner (r ∷ rs) [] = []
+figuresOf owned owner (r ∷ rs) (x ∷ xs) = cond (eqb (owned r) owner) (x ∷ figuresOf owned owner rs xs) (figuresOf owned owner rs xs)
 
--- What the figures of the owner's rows come to.
-abbrev pub sumOf : {T : Type 0} → (T → ℕ) → ℕ → List T → List ℤ → ℤ
-sumOf owned owner [] figures = pos 0
-sumOf owned owner (r ∷ rs) [] = pos 0
-sumOf owned owner (r ∷ rs) (x ∷ xs) = cond (eqb (owned r) owner) (x +ℤ sumOf owned owner rs xs) (sumOf owned owner rs xs)
+-- What figures come to.
+abbrev pub addedUp : List ℤ → ℤ
+addedUp [] = pos 0
+addedUp (x ∷ xs) = x +ℤ addedUp xs
 
 -- The owner's rows are given the parts in listed order, one each. Every other row keeps its figure.
 abbrev pub placed : {T : Type 0} → (T → ℕ) → ℕ → List T → List ℤ → List ℤ → List ℤ
@@ -39,10 +40,9 @@ partsFor rule owned claimed owner whole rows = signedParts whole (rule (natAbs w
 abbrev pub shared : {T : Type 0} → (ℕ → List ℕ → List ℕ) → (T → ℕ) → (T → ℕ) → ℕ → ℤ → List T → List ℤ → List ℤ
 shared rule owned claimed owner whole rows figures = placed owned owner rows (partsFor rule owned claimed owner whole rows) figures
 
--- What sharing out does, row by row: a row of the owner has the part at its place among the owner's rows, any other row has what it had,
--- and where the owner has a row at all, the figures of the owner's rows come to the whole.
+-- What sharing out does: the figures of the owner's rows are the rule's parts in listed order, every other row has what it had,
+-- and where the owner has a row at all, the owner's figures come to the whole.
 pub record SharedOut {T : Type 0} (rule : ℕ → List ℕ → List ℕ) (owned claimed : T → ℕ) (owner : ℕ) (whole : ℤ) (rows : List T) (before after : List ℤ) : Type 0 where
-  pub mine : (k : ℕ) (r : T) → k < length rows → r ≡ getD rows k r → owned r ≡ owner →
-      getD after k (pos 0) ≡ getD (partsFor rule owned claimed owner whole rows) (placeOf owned owner rows k) (pos 0)
+  pub parts : figuresOf owned owner rows after ≡ partsFor rule owned claimed owner whole rows
   pub others : (k : ℕ) (r : T) → k < length rows → r ≡ getD rows k r → (owned r ≡ owner → ⊥) → getD after k (pos 0) ≡ getD before k (pos 0)
-  pub adds : 1 ≤ countOf owned owner rows → sumOf owned owner rows after ≡ whole
+  pub adds : 1 ≤ countOf owned owner rows → addedUp (figuresOf owned owner rows after) ≡ whole
