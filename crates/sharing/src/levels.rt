@@ -1,6 +1,6 @@
 // Two levels: an owner's whole among the owner's heads by one rule, and each head's part among its members by another.
 ghost use mathlib.Core.Path.{_≡_};
-ghost use Prim.Native.Nat.{ℕ, _≤_};
+ghost use Prim.Native.Nat.{_≤_};
 ghost use lib.IntN.{natAbs};
 ghost use lib.ListN.{length};
 ghost use Rattle.std.specs.shelf.Lists.{sumBy};
@@ -12,21 +12,14 @@ use crate::rows::share_out;
 use division::DivisionRule;
 use division::MOST_CLAIMS;
 use tables::Table;
-use tables::totals::Carries;
-use tables::totals::Owned;
+use tables::bounds::Carries;
+use tables::bounds::Head;
+use tables::bounds::Owned;
 use tables::totals::Whose;
 use tables::totals::total;
 
-// A row with a number, under which its members are listed: a member's owner is the number of its head.
-pub trait Head: Owned {
-    ghost numbered: { Self → ℕ };
-
-    fn number(&self) -> u32
-        ensures { λ r. ⌜ r ≡ numbered (now (self .entry)) ⌝ };
-}
-
-// What the owner's heads claim, in listed order: each what its members carry together.
-fn gather_heads<H: Head, M: Carries>(heads: &[H], members: &[M], owner: u32) -> Table<u64, MOST_CLAIMS>
+// What the owner's heads claim, in listed order: each what its members carry together. Callers are proved to stay inside the limits.
+pub fn gather_heads<H: Head, M: Carries>(heads: &[H], members: &[M], owner: u32) -> Table<u64, MOST_CLAIMS>
     requires few { ⌜ length (now heads) ≤ 256 ⌝ }
     requires light { ⌜ sumBy (M·Carries .carried) (now members) ≤ 6144000000 ⌝ }
     ensures { λ r. ⌜ listed r ≡ claimsOf (H·Owned .owned) (claimOf (H·Head .numbered) (M·Owned .owned) (M·Carries .carried) (now (members .entry))) owner (now (heads .entry)) ⌝ }

@@ -12,11 +12,11 @@ use division::DivisionRule;
 use division::MOST_CLAIMS;
 use division::signed::divide_signed;
 use tables::Table;
-use tables::totals::Carries;
-use tables::totals::Owned;
+use tables::bounds::Carries;
+use tables::bounds::Owned;
 
-// What the owner's rows carry, in listed order.
-fn gather<T: Carries>(rows: &[T], owner: u32) -> Table<u64, MOST_CLAIMS>
+// What the owner's rows carry, in listed order. Callers are proved to have no more rows than a division takes.
+pub fn gather<T: Carries>(rows: &[T], owner: u32) -> Table<u64, MOST_CLAIMS>
     requires { ⌜ length (now rows) ≤ 256 ⌝ }
     ensures { λ r. ⌜ listed r ≡ claimsOf (T·Owned .owned) (T·Carries .carried) owner (now (rows .entry)) ⌝ }
 {

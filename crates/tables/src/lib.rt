@@ -12,5 +12,6 @@ pub struct Table<T, const N: usize> {
     ghost whole: { length rows ≡ N },
 }
 
+pub mod bounds;
 mod rows;
 pub mod totals;

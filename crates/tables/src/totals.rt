@@ -1,42 +1,10 @@
 // The one totalling of the engine: what rows carry together, over the rows of one owner or over all.
 ghost use mathlib.Core.Path.{_≡_};
-ghost use Prim.Native.Nat.{ℕ, _^_, _<_, _≤_};
+ghost use Prim.Native.Nat.{_^_, _<_, _≤_};
 ghost use Rattle.std.specs.shelf.Lists.{sum};
 ghost use Rattle.std.specs.Options.{Cases};
 ghost use Rattle.tables.specs.Carried.{counts, carriedBy};
-
-// A row that belongs to an owner, by the owner's number.
-pub trait Owned {
-    ghost owned: { Self → ℕ };
-
-    fn owner(&self) -> u32
-        ensures { λ r. ⌜ r ≡ owned (now (self .entry)) ⌝ };
-}
-
-// A row that carries kWh for its owner.
-pub trait Carries: Owned {
-    ghost carried: { Self → ℕ };
-
-    fn kwh(&self) -> u64
-        ensures { λ r. ⌜ r ≡ carried (now (self .entry)) ⌝ };
-}
-
-// A figure by itself carries itself, and belongs to nobody.
-pub impl Owned for u64 as FigureOwned {
-    ghost owned = { λ _. 0 };
-
-    fn owner(&self) -> u32 {
-        0
-    }
-}
-
-pub impl Carries for u64 as FigureCarries {
-    ghost carried = { λ x. x };
-
-    fn kwh(&self) -> u64 {
-        *self
-    }
-}
+use crate::bounds::Carries;
 
 // Whose rows are totalled.
 #[derive(Clone, Copy)]

@@ -1,0 +1,2 @@
+pub mod Deemed
+pub mod Lines

@@ -1,0 +1,3 @@
+// The corrected plan of one generation contract, and its working.
+pub mod plan;
+pub mod working;
