@@ -1,2 +1,3 @@
 pub mod Deemed
 pub mod Lines
+pub mod Explaining

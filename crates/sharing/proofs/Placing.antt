@@ -107,9 +107,17 @@ plus-neg (p ∷ ps) =
     let ih = plus-neg ps in
     ap (λ z. negℤ (pos p) +ℤ z) ih ∙ omega (arith, ints, s)
 
+-- signed parts come to their sum with the sign
+pub signed-sum : (w : ℤ) (ps : List ℕ) → addedUp (signedParts w ps) ≡ withSign w (sum ps)
+signed-sum (pos n) ps = plus-pos ps
+signed-sum (negsuc n) ps = plus-neg ps
+
+pub own-sign : (w : ℤ) → withSign w (natAbs w) ≡ w
+own-sign (pos n) = refl
+own-sign (negsuc n) = refl
+
 signed-adds : (w : ℤ) (ps : List ℕ) → sum ps ≡ natAbs w → addedUp (signedParts w ps) ≡ w
-signed-adds (pos n) ps e = plus-pos ps ∙ ap pos e
-signed-adds (negsuc n) ps e = plus-neg ps ∙ ap (λ m. negℤ (pos m)) e
+signed-adds w ps e = signed-sum w ps ∙ ap (withSign w) e ∙ own-sign w
 
 pub length-shared : {T : Type 0} (rule : ℕ → List ℕ → List ℕ) (owned carried : T → ℕ) (o : ℕ) (w : ℤ) (rows : List T) (xs : List ℤ) → length (shared rule owned carried o w rows xs) ≡ length xs
 length-shared rule owned carried o w rows xs = length-placed owned o rows (partsFor rule owned carried o w rows) xs

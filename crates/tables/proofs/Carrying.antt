@@ -1,12 +1,12 @@
 -- What rows carry, one row on: the steps of every loop over rows that pass a test.
 use mathlib.Core.Path.{_≡_, refl, sym, ap, _∙_}
-use mathlib.Core.List.{List, [], _∷_}
+use mathlib.Core.List.{List, [], _∷_, map}
 use mathlib.Core.Bool.{Bool, true, false, cond}
 use Prim.Native.Nat.{ℕ, _+_, _<_, _≤_}
 use native.Mathlib.Omega.{arith}
 use lib.ListN.{length, drop, getD}
 use Rattle.std.specs.shelf.Lists.{sum}
-use Rattle.std.proofs.shelf.Lists.{at-drop-more, at-drop-all}
+use Rattle.std.proofs.shelf.Lists.{at-drop-more, at-drop-all, map-id}
 use Rattle.std.proofs.shelf.Sums.{sumBy-cons}
 use Rattle.std.proofs.shelf.Tests.{cond-true, cond-false}
 use Rattle.tables.specs.Carried.{carriedIf}
@@ -34,7 +34,11 @@ module _ {T : Type 0} (passes : T → Bool) (carried : T → ℕ) where
   pub carried-end : (rows : List T) (i : ℕ) → length rows ≤ i → carriedIf passes carried (drop i rows) ≡ []
   carried-end rows i h = at-drop-all (carriedIf passes carried) rows i h
 
--- where every row passes and is what it carries, the rows are what is carried
+-- where every row passes, what is carried is what each row carries
+pub carried-everyone : {T : Type 0} (carried : T → ℕ) (rows : List T) → carriedIf (λ r. true) carried rows ≡ map carried rows
+carried-everyone carried [] = refl
+carried-everyone carried (r ∷ rs) = ap (λ ys. carried r ∷ ys) (carried-everyone carried rs)
+
+-- figures carry themselves
 pub carried-all : (xs : List ℕ) → carriedIf (λ x. true) (λ x. x) xs ≡ xs
-carried-all [] = refl
-carried-all (x ∷ xs) = ap (λ ys. x ∷ ys) (carried-all xs)
+carried-all xs = carried-everyone (λ x. x) xs ∙ map-id xs

@@ -6,7 +6,7 @@ use Rattle.std.specs.shelf.Lists.{sum}
 use Rattle.tables.specs.Listed.{listed}
 use Rattle.sharing.specs.Owners.{countOf}
 use Rattle.planning.specs.Workings.{workingOf, workings}
-use Rattle.planning.proofs.working.work_out.Given as given
+use Rattle.planning.proofs.working.list_lines.Given as given
 
 abbrev pub Inv-loop-i : given.InvT-loop-i
 Inv-loop-i g l =
