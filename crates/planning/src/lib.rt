@@ -1,3 +1,4 @@
 // The corrected plan of one generation contract, and its working.
 pub mod plan;
+pub mod text;
 pub mod working;

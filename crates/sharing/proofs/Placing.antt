@@ -18,7 +18,6 @@ use Rattle.division.specs.Signed.{withSign, signedParts}
 use Rattle.division.specs.Terms.{Keeps}
 use Rattle.division.proofs.Signs.{natAbs-sign, parts-small}
 use Rattle.sharing.specs.Owners.{countOf, figuresOf, addedUp, placed, partsFor, shared, SharedOut}
-use Rattle.sharing.specs.Levels.{Small}
 use Rattle.sharing.proofs.Steps.{length-claims}
 
 module _ {T : Type 0} (owned : T → ℕ) (o : ℕ) where
@@ -137,10 +136,10 @@ module _ {T : Type 0} (rule : ℕ → List ℕ → List ℕ) (keeps : Keeps rule
   parts-add some = signed-adds w (rule (natAbs w) claims) (keeps .all (natAbs w) claims (omega (arith, length-claims owned o claimed rows)))
 
   -- no part is larger than the whole
-  all-small : 1 ≤ length claims → natAbs w ≤ 128000000 → All (λ z. natAbs z ≤ 128000000) parts
-  all-small some s =
-      let low : All (λ p. p ≤ 128000000) (rule (natAbs w) claims) = parts-small (rule (natAbs w) claims) (natAbs w) 128000000 (keeps .all (natAbs w) claims some) s in
-      all-map (λ (z : ℤ). natAbs z ≤ 128000000) (withSign w) (rule (natAbs w) claims) (all-weaker (λ p. p ≤ 128000000) (λ p. natAbs (withSign w p) ≤ 128000000) (λ p q. omega (arith, natAbs-sign w p)) (rule (natAbs w) claims) low)
+  all-within : 1 ≤ length claims → All (λ z. natAbs z ≤ natAbs w) parts
+  all-within some =
+      let low : All (λ p. p ≤ natAbs w) (rule (natAbs w) claims) = parts-small (rule (natAbs w) claims) (natAbs w) (natAbs w) (keeps .all (natAbs w) claims some) (omega arith) in
+      all-map (λ (z : ℤ). natAbs z ≤ natAbs w) (withSign w) (rule (natAbs w) claims) (all-weaker (λ p. p ≤ natAbs w) (λ p. natAbs (withSign w p) ≤ natAbs w) (λ p q. omega (arith, natAbs-sign w p)) (rule (natAbs w) claims) low)
 
   module _ (xs : List ℤ) where
     -- parts given out by gathered claims
@@ -159,19 +158,19 @@ module _ {T : Type 0} (rule : ℕ → List ℕ → List ℕ) (keeps : Keeps rule
     pub shared-keeps : (k : ℕ) (r : T) → k < length rows → r ≡ getD rows k r → (owned r ≡ o → ⊥) → getD (shared rule owned claimed o w rows xs) k (pos 0) ≡ getD xs k (pos 0)
     shared-keeps k r h e m = placed-other owned o rows parts xs k r h e m
 
+    shared-within : length xs ≡ length rows → (k : ℕ) (r : T) → k < length rows → r ≡ getD rows k r → owned r ≡ o → natAbs (getD (shared rule owned claimed o w rows xs) k (pos 0)) ≤ natAbs w
+    shared-within l k r h e m =
+        let P : ℤ → Type 0 = λ z. natAbs z ≤ natAbs w in
+        let some : 1 ≤ length claims = omega (arith, some-row owned o rows k r h e m, length-claims owned o claimed rows) in
+        own-figure owned o P rows (shared rule owned claimed o w rows xs) (length-shared rule owned claimed o w rows xs ∙ l) (subst (All P) (sym (shared-parts l)) (all-within some)) k r h e m
+
     pub shared-out : (new : List ℤ) → length xs ≡ length rows → new ≡ shared rule owned claimed o w rows xs → SharedOut rule owned claimed o w rows xs new
     shared-out new l e = subst (λ (ys : List ℤ). SharedOut rule owned claimed o w rows xs ys) (sym e) (record {
         parts = shared-parts l;
         others = shared-keeps;
         adds = shared-adds l;
+        within = shared-within l;
       })
-
-    pub shared-small : (new : List ℤ) → length xs ≡ length rows → natAbs w ≤ 128000000 → new ≡ shared rule owned claimed o w rows xs → Small owned o rows new
-    shared-small new l s is k r h e m =
-        let P : ℤ → Type 0 = λ z. natAbs z ≤ 128000000 in
-        let some : 1 ≤ length claims = omega (arith, some-row owned o rows k r h e m, length-claims owned o claimed rows) in
-        let own : figuresOf owned o rows new ≡ parts = ap (figuresOf owned o rows) is ∙ shared-parts l in
-        own-figure owned o P rows new (ap length is ∙ length-shared rule owned claimed o w rows xs ∙ l) (subst (All P) (sym own) (all-small some s)) k r h e m
 
 pub figures-others : {T : Type 0} (rule : ℕ → List ℕ → List ℕ) (keeps : Keeps rule) (owned claimed : T → ℕ) (o q : ℕ) (w : ℤ) (rows : List T) (xs : List ℤ) → length xs ≡ length rows → (q ≡ o → ⊥) →
     figuresOf owned q rows (shared rule owned claimed o w rows xs) ≡ figuresOf owned q rows xs

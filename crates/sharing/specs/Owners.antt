@@ -41,8 +41,9 @@ abbrev pub shared : {T : Type 0} → (ℕ → List ℕ → List ℕ) → (T → 
 shared rule owned claimed owner whole rows figures = placed owned owner rows (partsFor rule owned claimed owner whole rows) figures
 
 -- What sharing out does: the figures of the owner's rows are the rule's parts in listed order, every other row has what it had,
--- and where the owner has a row at all, the owner's figures come to the whole.
+-- where the owner has a row at all, the owner's figures come to the whole, and none is larger than the whole in magnitude.
 pub record SharedOut {T : Type 0} (rule : ℕ → List ℕ → List ℕ) (owned claimed : T → ℕ) (owner : ℕ) (whole : ℤ) (rows : List T) (before after : List ℤ) : Type 0 where
   pub parts : figuresOf owned owner rows after ≡ partsFor rule owned claimed owner whole rows
   pub others : (k : ℕ) (r : T) → k < length rows → r ≡ getD rows k r → (owned r ≡ owner → ⊥) → getD after k (pos 0) ≡ getD before k (pos 0)
   pub adds : 1 ≤ countOf owned owner rows → addedUp (figuresOf owned owner rows after) ≡ whole
+  pub within : (k : ℕ) (r : T) → k < length rows → r ≡ getD rows k r → owned r ≡ owner → natAbs (getD after k (pos 0)) ≤ natAbs whole

@@ -2,3 +2,4 @@
 pub mod balance;
 pub mod records;
 pub mod refusal;
+pub mod text;

@@ -9,7 +9,7 @@ use Rattle.division.specs.Terms.{Keeps}
 use Rattle.division.proofs.Signs.{back}
 use Rattle.sharing.specs.Levels.{claimOf}
 use Rattle.sharing.proofs.Steps.{length-claims, count-within}
-use Rattle.sharing.proofs.Placing.{given-shared, shared-small}
+use Rattle.sharing.proofs.Placing.{given-shared, shared-out}
 use Rattle.sharing.proofs.Levelling.{claimed-within, shared-on-levels}
 use Rattle.sharing.proofs.levels.share_out_levels.Needs as need
 
@@ -43,7 +43,7 @@ spread-out-requires g c κs =
       light = c .pre .light;
       heads = c .give-out .kept .figures ∙ c .pre .heads;
       members = c .pre .members;
-      small = shared-small (g .A·DivisionRule .parts rule) keeps (g .H·Owned .owned) claimed (c .args .owner) (c .args .whole) heads old new (c .pre .heads) (c .pre .small) e;
+      small = λ k h lt read mine. omega (arith, shared-out (g .A·DivisionRule .parts rule) keeps (g .H·Owned .owned) claimed (c .args .owner) (c .args .whole) heads old new (c .pre .heads) e .within k h lt read mine, c .pre .small);
     }
 
 pub returns : need.returns
