@@ -141,6 +141,7 @@ near w cs k h =
     let part : ℕ = getD (proRata w cs) k 0 in
     let two : (getD (floors w cs) k 0 ≤ part) × (part ≤ getD (floors w cs) k 0 + 1) = topped-near (w - sum (floors w cs)) (floors w cs) k in
     let low : t * (w * c / t) ≤ t * part = mul-le-mul-left t (omega arith) in
-    let high : t * part ≤ t * (w * c / t + 1) = mul-le-mul-left t (omega arith) in
-    (omega (arith, mul-add t (w * c / t) 1, mul-one t, div-add-mod (w * c) t),
-     omega (arith, div-add-mod (w * c) t, mod-below (w * c) t p))
+    let high : t * part ≤ t * (w * c / t + 1) = mul-le-mul-left t (omega arith) in (
+      omega (arith, mul-add t (w * c / t) 1, mul-one t, div-add-mod (w * c) t),
+      omega (arith, div-add-mod (w * c) t, mod-below (w * c) t p),
+    )

@@ -34,7 +34,7 @@ ranked-more xs cs i left all h k inv =
     let z : 0 < length (drop (i + 1) cs) = simp length-drop (omega arith) in
     let e : left - min (getD cs i 0) left ≡ left - getD cs i 0 = omega arith in
     let step : ranked left (drop i cs) ≡ min (getD cs i 0) left ∷ ranked (left - getD cs i 0) (drop (i + 1) cs) =
-        ap (ranked left) (drop-more cs i 0 l) ∙ ranked-cons left (getD cs i 0) (drop (i + 1) cs) z in
+    ap (ranked left) (drop-more cs i 0 l) ∙ ranked-cons left (getD cs i 0) (drop (i + 1) cs) z in
     ap (λ t. t ++ ranked (left - y) (drop (i + 1) cs)) (take-more-set xs i y k)
     ∙ append-assoc (take i xs) (y ∷ []) (ranked (left - y) (drop (i + 1) cs))
     ∙ ap (λ n. take i xs ++ (y ∷ ranked n (drop (i + 1) cs))) e
@@ -47,7 +47,7 @@ ranked-last xs cs last left all h k inv =
     let l : last < length cs = omega arith in
     let m : last < length xs = omega arith in
     let e : drop last cs ≡ getD cs last 0 ∷ [] =
-        drop-more cs last 0 l ∙ ap (λ t. getD cs last 0 ∷ t) (drop-all (last + 1) cs (omega arith)) in
+    drop-more cs last 0 l ∙ ap (λ t. getD cs last 0 ∷ t) (drop-all (last + 1) cs (omega arith)) in
     set-split xs last left m
     ∙ ap (λ t. take last xs ++ (left ∷ t)) (drop-all (suc last) xs (omega arith))
     ∙ sym (ap (λ t. take last xs ++ ranked left t) e)

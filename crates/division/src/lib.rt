@@ -20,7 +20,9 @@ pub mod signed;
 
 // What any division rule takes at most: so many claims, so many kWh to divide, and claims that come to so many kWh.
 pub const MOST_CLAIMS: usize = 256;
+
 pub const MOST_WHOLE: u64 = 128_000_000;
+
 pub const MOST_CLAIMED: u64 = 6_144_000_000;
 
 // A rule that turns a whole and a list of claims into as many parts.
@@ -41,12 +43,16 @@ pub trait DivisionRule {
 
 // The claims' total, where the division is inside the limits.
 fn admitted(whole: u64, claims: &[u64], room: usize) -> Result<u64, Refusal>
-    ensures {
-        λ r. ⌜ elim r [ Ok total ↦ (divisible whole (now (claims .entry)) room ≡ true) × (total ≡ sum (now (claims .entry)))
-            | Err e ↦ (divisible whole (now (claims .entry)) room ≡ false) × (e ≡ NotDivisible) ] ⌝
-    }
+    ensures { λ r. ⌜ elim r [
+      | Ok total ↦ (divisible whole (now (claims .entry)) room ≡ true) × (total ≡ sum (now (claims .entry)))
+      | Err e ↦ (divisible whole (now (claims .entry)) room ≡ false) × (e ≡ NotDivisible)
+    ] ⌝ }
 {
-    if claims.len() < 1 || claims.len() > MOST_CLAIMS || whole > MOST_WHOLE || room != claims.len() {
+    if claims.len() < 1
+        || claims.len() > MOST_CLAIMS
+        || whole > MOST_WHOLE
+        || room != claims.len()
+    {
         return Err(Refusal::NotDivisible);
     }
     match total_within(claims, Whose::Everyone, MOST_CLAIMED) {

@@ -23,7 +23,11 @@ pub fn rounded_down(whole: u64, total: u64, count: usize, claim: u64) -> u64
     requires light { ⌜ claim ≤ 6144000000 ⌝ }
     ensures { λ r. ⌜ r ≡ roundedDown whole total count claim ⌝ }
 {
-    if total == 0 { whole / count as u64 } else { whole * claim / total }
+    if total == 0 {
+        whole / count as u64
+    } else {
+        whole * claim / total
+    }
 }
 
 // Writes each part rounded down.

@@ -13,7 +13,11 @@ pub fn with_sign(whole: i64, part: u64) -> i64
     requires { ⌜ part ≤ 128000000 ⌝ }
     ensures { λ r. ⌜ r ≡ withSign whole part ⌝ }
 {
-    if whole < 0 { 0 - part as i64 } else { part as i64 }
+    if whole < 0 {
+        0 - part as i64
+    } else {
+        part as i64
+    }
 }
 
 // Writes each part with the sign of its whole.
@@ -28,7 +32,12 @@ fn sign_parts(whole: i64, parts: &[u64], into: &mut [i64])
 }
 
 // Divides the whole's magnitude by the rule, and gives every part the whole's sign.
-pub fn divide_signed<R: DivisionRule>(rule: &R, whole: i64, claims: &[u64], into: &mut [i64]) -> Result<(), Refusal>
+pub fn divide_signed<R: DivisionRule>(
+    rule: &R,
+    whole: i64,
+    claims: &[u64],
+    into: &mut [i64],
+) -> Result<(), Refusal>
     ensures { λ r. ⌜ DividedSigned (R·DivisionRule .parts (now (rule .entry))) whole (now (claims .entry)) (now (into .entry)) (now (into .exit)) r ⌝ }
 {
     if claims.len() > MOST_CLAIMS || into.len() != claims.len() {

@@ -131,7 +131,7 @@ module _ {T : Type 0} (owned known : T → ℕ) (o : ℕ) (w : ℤ) (rows : List
       let rule : E v = all-getD E shown n blank lt (lines-all-are owned known o (workingOf w (sum cs) (length cs)) E (λ k c x. refl) rows cs xs) in
       let f : v .floor ≡ getD (floors (natAbs w) cs) n 0 = sym (getD-map (λ (u : Working). u .floor) shown n blank 0 lt) ∙ ap (λ l. getD l n 0) show-floors in
       let p : natAbs (v .part) ≡ getD (proRata (natAbs w) cs) n 0 =
-          sym (getD-map (λ (u : Working). natAbs (u .part)) shown n blank 0 lt) ∙ ap (λ l. getD l n 0) (magnitudes w (proRata (natAbs w) cs) shown show-parts) in
+      sym (getD-map (λ (u : Working). natAbs (u .part)) shown n blank 0 lt) ∙ ap (λ l. getD l n 0) (magnitudes w (proRata (natAbs w) cs) shown show-parts) in
       getD-map (λ (u : Working). u .extra) shown n blank false lt
       ∙ rule
       ∙ ap (λ a. ltb a (natAbs (v .part))) f
@@ -149,13 +149,13 @@ module _ {T : Type 0} (owned known : T → ℕ) (o : ℕ) (w : ℤ) (rows : List
 
   pub explained : (together : ℤ) → together ≡ withSign w (sum (proRata (natAbs w) cs)) → Explains w cs shown together
   explained together e = record {
-      claims-shown = show-claims;
-      floors-shown = show-floors;
-      parts-shown = show-parts;
-      first-ones = show-extra;
-      sum-shown = e ∙ sym (signed-sum w (proRata (natAbs w) cs)) ∙ sym (ap addedUp show-parts);
-      whole-divided = λ some. e ∙ ap (withSign w) (sum-pro-rata (natAbs w) cs some) ∙ own-sign w;
-    }
+    claims-shown = show-claims;
+    floors-shown = show-floors;
+    parts-shown = show-parts;
+    first-ones = show-extra;
+    sum-shown = e ∙ sym (signed-sum w (proRata (natAbs w) cs)) ∙ sym (ap addedUp show-parts);
+    whole-divided = λ some. e ∙ ap (withSign w) (sum-pro-rata (natAbs w) cs some) ∙ own-sign w;
+  }
 
 -- parts of a whole among claims are parts of the whole as the machine holds it, among the claims as they were gathered
 pub divided-as : (fs : List ℤ) (w z : ℤ) (cs ds : List ℕ) → z ≡ w → ds ≡ cs → fs ≡ signedParts w (proRata (natAbs w) cs) → fs ≡ signedParts z (proRata (natAbs z) ds)

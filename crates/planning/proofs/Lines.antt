@@ -32,10 +32,10 @@ module _ {T : Type 0} (owned known : T → ℕ) (owner : ℕ) (line : ℕ → �
         let z : n + 0 ≡ n = omega arith in
         let first : getD (drop n claims) 0 0 ≡ getD claims n 0 = getD-drop n claims 0 0 ∙ ap (λ m. getD claims m 0) z in
         let step : workings owned known owner line (drop i rows) (drop n claims) (drop i figures) ≡ v ∷ rest (n + 1) =
-            lines-at ∙ cond-true _ _ _ (eq-eqb (owned x) owner mine)
-            ∙ ap (λ cs. line (known x) (getD (drop n claims) 0 0) (getD figures i (pos 0)) ∷ workings owned known owner line (drop (i + 1) rows) cs (drop (i + 1) figures)) (drop-drop 1 n claims)
-            ∙ ap (λ c. line (known x) c (getD figures i (pos 0)) ∷ rest (n + 1)) first
-            ∙ ap (λ w. w ∷ rest (n + 1)) (sym is) in
+        lines-at ∙ cond-true _ _ _ (eq-eqb (owned x) owner mine)
+        ∙ ap (λ cs. line (known x) (getD (drop n claims) 0 0) (getD figures i (pos 0)) ∷ workings owned known owner line (drop (i + 1) rows) cs (drop (i + 1) figures)) (drop-drop 1 n claims)
+        ∙ ap (λ c. line (known x) c (getD figures i (pos 0)) ∷ rest (n + 1)) first
+        ∙ ap (λ w. w ∷ rest (n + 1)) (sym is) in
         ap (λ q. q ++ rest (n + 1)) pushed ∙ append-assoc out (v ∷ []) (rest (n + 1)) ∙ sym (ap (λ q. out ++ q) step) ∙ inv
 
     pub lines-no : (out out′ all : List Working) → (owned x ≡ owner → ⊥) → out′ ≡ out →

@@ -22,7 +22,7 @@ pub record Limits (groups : List GenerationGroup) (shares : List Share) : Type 0
 abbrev pub PlanCorrected : (ℕ → List ℕ → List ℕ) → (ℕ → List ℕ → List ℕ) → ℕ → ℤ → List GenerationGroup → List Share → List ℤ → List ℤ → List ℤ → List ℤ → Type 0
 PlanCorrected first second contract deemed groups shares groups-before groups-after shares-before shares-after =
     SharedOnLevels first second (λ (g : GenerationGroup). g .contract) (λ (g : GenerationGroup). g .number) (λ (s : Share). s .group) (λ (s : Share). s .planned)
-      contract deemed groups shares groups-before groups-after shares-before shares-after
+    contract deemed groups shares groups-before groups-after shares-before shares-after
 
 -- What the contract's groups claim, in listed order: each what its shares planned together.
 abbrev pub groupClaims : ℕ → List GenerationGroup → List Share → List ℕ

@@ -30,10 +30,17 @@ pub fn correct_plan<A: DivisionRule, B: DivisionRule>(
     requires traded { ⌜ (now balance .sold ≤ 128000000) × (now balance .bought ≤ 128000000) ⌝ }
     requires groups { ⌜ length (now «group_plans») ≡ length (now groups) ⌝ }
     requires shares { ⌜ length (now «share_plans») ≡ length (now shares) ⌝ }
-    ensures {
-        λ _. ⌜ PlanCorrected (A·DivisionRule .parts (now (first .entry))) (B·DivisionRule .parts (now (second .entry))) contract (pos (now (balance .entry) .sold) -ℤ pos (now (balance .entry) .bought))
-            (now (groups .entry)) (now (shares .entry)) (now («group_plans» .entry)) (now («group_plans» .exit)) (now («share_plans» .entry)) (now («share_plans» .exit)) ⌝
-    }
+    ensures { λ _. ⌜ PlanCorrected (A·DivisionRule .parts (now (first .entry))) (B·DivisionRule .parts (now (second .entry))) contract (pos (now (balance .entry) .sold) -ℤ pos (now (balance .entry) .bought))
+        (now (groups .entry)) (now (shares .entry)) (now («group_plans» .entry)) (now («group_plans» .exit)) (now («share_plans» .entry)) (now («share_plans» .exit)) ⌝ }
 {
-    share_out_levels(first, second, groups, shares, contract, balance.own(), group_plans, share_plans);
+    share_out_levels(
+        first,
+        second,
+        groups,
+        shares,
+        contract,
+        balance.own(),
+        group_plans,
+        share_plans,
+    );
 }

@@ -14,6 +14,9 @@ pub impl fmt::Display for Working as WorkingText {
         let floor = self.floor;
         let extra = u8::from(self.extra);
         let part = self.part;
-        write!(f, "{number}: planned {claim}, rounded down {floor}, left over {extra}, corrected {part}")
+        write!(
+            f,
+            "{number}: planned {claim}, rounded down {floor}, left over {extra}, corrected {part}"
+        )
     }
 }

@@ -91,7 +91,14 @@ pub impl Claimant for Share as ShareClaimant {
 }
 
 // The working of one part, where so many claims come to this total.
-fn work_out_part(whole: i64, total: u64, count: usize, number: u32, claim: u64, part: i64) -> Working
+fn work_out_part(
+    whole: i64,
+    total: u64,
+    count: usize,
+    number: u32,
+    claim: u64,
+    part: i64,
+) -> Working
     requires some { ⌜ 1 ≤ count ⌝ }
     requires small { ⌜ natAbs whole ≤ 128000000 ⌝ }
     requires light { ⌜ claim ≤ 6144000000 ⌝ }
@@ -109,16 +116,20 @@ fn work_out_part(whole: i64, total: u64, count: usize, number: u32, claim: u64, 
 }
 
 // The working of each of the owner's rows, in listed order, from their claims and their figures.
-fn list_lines<T: Claimant>(rows: &[T], owner: u32, whole: i64, claims: &[u64], figures: &[i64]) -> Table<Working, MOST_CLAIMS>
+fn list_lines<T: Claimant>(
+    rows: &[T],
+    owner: u32,
+    whole: i64,
+    claims: &[u64],
+    figures: &[i64],
+) -> Table<Working, MOST_CLAIMS>
     requires few { ⌜ length (now rows) ≤ 256 ⌝ }
     requires room { ⌜ length (now figures) ≡ length (now rows) ⌝ }
     requires each { ⌜ length (now claims) ≡ countOf (T·Owned .owned) owner (now rows) ⌝ }
     requires light { ⌜ sum (now claims) ≤ 6144000000 ⌝ }
     requires small { ⌜ natAbs whole ≤ 128000000 ⌝ }
-    ensures {
-        λ r. ⌜ listed r ≡ workings (T·Owned .owned) (T·Claimant .known) owner (workingOf whole (sum (now (claims .entry))) (length (now (claims .entry))))
-            (now (rows .entry)) (now (claims .entry)) (now (figures .entry)) ⌝
-    }
+    ensures { λ r. ⌜ listed r ≡ workings (T·Owned .owned) (T·Claimant .known) owner (workingOf whole (sum (now (claims .entry))) (length (now (claims .entry))))
+        (now (rows .entry)) (now (claims .entry)) (now (figures .entry)) ⌝ }
 {
     let all = total(claims, Whose::Everyone);
     let mut lines: Table<Working, MOST_CLAIMS> = Table::new(Working {
@@ -132,7 +143,14 @@ fn list_lines<T: Claimant>(rows: &[T], owner: u32, whole: i64, claims: &[u64], f
     for i in 0..rows.len() {
         let row = &rows[i];
         if row.owner() == owner {
-            lines.push(work_out_part(whole, all, claims.len(), row.known_by(), claims[n], figures[i]));
+            lines.push(work_out_part(
+                whole,
+                all,
+                claims.len(),
+                row.known_by(),
+                claims[n],
+                figures[i],
+            ));
             n += 1;
         }
     }
@@ -140,7 +158,13 @@ fn list_lines<T: Claimant>(rows: &[T], owner: u32, whole: i64, claims: &[u64], f
 }
 
 // Works out a whole that was divided pro rata among the owner's rows.
-fn work_out<T: Claimant>(rows: &[T], owner: u32, whole: i64, claims: &[u64], figures: &[i64]) -> Worked
+fn work_out<T: Claimant>(
+    rows: &[T],
+    owner: u32,
+    whole: i64,
+    claims: &[u64],
+    figures: &[i64],
+) -> Worked
     requires few { ⌜ length (now rows) ≤ 256 ⌝ }
     requires room { ⌜ length (now figures) ≡ length (now rows) ⌝ }
     requires each { ⌜ length (now claims) ≡ countOf (T·Owned .owned) owner (now rows) ⌝ }
@@ -156,7 +180,13 @@ fn work_out<T: Claimant>(rows: &[T], owner: u32, whole: i64, claims: &[u64], fig
 }
 
 // Works out how a contract's deemed plan was divided among its groups. Callers are proved to hand over plans that were divided so.
-pub fn work_out_groups(groups: &[GenerationGroup], shares: &[Share], contract: u32, deemed: i64, group_plans: &[i64]) -> Worked
+pub fn work_out_groups(
+    groups: &[GenerationGroup],
+    shares: &[Share],
+    contract: u32,
+    deemed: i64,
+    group_plans: &[i64],
+) -> Worked
     requires limits { ⌜ Limits (now groups) (now shares) ⌝ }
     requires room { ⌜ length (now «group_plans») ≡ length (now groups) ⌝ }
     requires small { ⌜ natAbs deemed ≤ 128000000 ⌝ }

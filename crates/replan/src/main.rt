@@ -49,14 +49,32 @@ fn show(rt: LibcRuntime, what: &str, worked: &Worked) -> io::Result<()> {
 }
 
 // Corrects the plan of a producer that sold and bought so much, and prints every step.
-fn replan(rt: LibcRuntime, title: &str, groups: &[GenerationGroup], shares: &[Share], sold: u32, bought: u32, group_plans: &mut [i64], share_plans: &mut [i64]) -> io::Result<()>
+fn replan(
+    rt: LibcRuntime,
+    title: &str,
+    groups: &[GenerationGroup],
+    shares: &[Share],
+    sold: u32,
+    bought: u32,
+    group_plans: &mut [i64],
+    share_plans: &mut [i64],
+) -> io::Result<()>
     requires limits { ⌜ Limits (now groups) (now shares) ⌝ }
     requires traded { ⌜ (sold ≤ 128000000) × (bought ≤ 128000000) ⌝ }
     requires groups { ⌜ length (now «group_plans») ≡ length (now groups) ⌝ }
     requires shares { ⌜ length (now «share_plans») ≡ length (now shares) ⌝ }
 {
     let balance = Balance::of(sold, bought);
-    correct_plan(&ProRata, &ProRata, CONTRACT, &balance, groups, shares, group_plans, share_plans);
+    correct_plan(
+        &ProRata,
+        &ProRata,
+        CONTRACT,
+        &balance,
+        groups,
+        shares,
+        group_plans,
+        share_plans,
+    );
     println!(rt, "{title}")?;
     println!(rt, "{balance}")?;
     let worked = work_out_groups(groups, shares, CONTRACT, balance.own(), group_plans);
@@ -74,7 +92,121 @@ fn replan(rt: LibcRuntime, title: &str, groups: &[GenerationGroup], shares: &[Sh
     println!(rt, "")
 }
 
+// The trade's published examples of a plan that does not fit the trades.
+fn published_examples(rt: LibcRuntime) -> io::Result<()> {
+    let groups = [group(1), group(2)];
+    let shares = [
+        share(1, 1, 100),
+        share(1, 2, 50),
+        share(2, 3, 30),
+        share(2, 4, 20),
+    ];
+    replan(
+        rt,
+        "The exchange took more than was planned",
+        &groups,
+        &shares,
+        300,
+        0,
+        &mut [0; 2],
+        &mut [0; 4],
+    )?;
+    let shares = [
+        share(1, 1, 250),
+        share(1, 2, 50),
+        share(2, 3, 130),
+        share(2, 4, 70),
+    ];
+    replan(
+        rt,
+        "Less was sent to another area than was planned",
+        &groups,
+        &shares,
+        400,
+        0,
+        &mut [0; 2],
+        &mut [0; 4],
+    )?;
+    let shares = [
+        share(1, 1, 250),
+        share(1, 2, 50),
+        share(2, 3, 70),
+        share(2, 4, 30),
+    ];
+    replan(
+        rt,
+        "The partner planned to buy less",
+        &groups,
+        &shares,
+        200,
+        0,
+        &mut [0; 2],
+        &mut [0; 4],
+    )?;
+    let shares = [
+        share(1, 1, 150),
+        share(1, 2, 100),
+        share(2, 3, 90),
+        share(2, 4, 60),
+    ];
+    replan(
+        rt,
+        "The plan left the purchases out",
+        &groups,
+        &shares,
+        400,
+        200,
+        &mut [0; 2],
+        &mut [0; 4],
+    )?;
+    let shares = [share(1, 1, 30), share(2, 2, 30)];
+    replan(
+        rt,
+        "Two groups of one plant each",
+        &groups,
+        &shares,
+        100,
+        80,
+        &mut [0; 2],
+        &mut [0; 2],
+    )
+}
+
+// Two examples more: kWh left over on both levels, and purchases above the sales.
+fn further_examples(rt: LibcRuntime) -> io::Result<()> {
+    let groups = [group(1), group(2)];
+    let shares = [
+        share(1, 1, 4),
+        share(1, 2, 1),
+        share(1, 3, 5),
+        share(2, 4, 3),
+        share(2, 5, 3),
+        share(2, 6, 1),
+    ];
+    replan(
+        rt,
+        "kWh left over among groups and among plants",
+        &groups,
+        &shares,
+        12,
+        0,
+        &mut [0; 2],
+        &mut [0; 6],
+    )?;
+    let shares = [share(1, 1, 4), share(1, 2, 1), share(2, 3, 5)];
+    replan(
+        rt,
+        "Purchases above the sales: the magnitude is divided, and every part takes the sign",
+        &groups,
+        &shares,
+        5,
+        12,
+        &mut [0; 2],
+        &mut [0; 3],
+    )
+}
+
 fn main(rt: LibcRuntime) -> io::Result<()> {
-    let two = [group(1), group(2)];
-    replan(rt, "The exchange took more than was planned", &two, &[share(1, 1, 100), share(1, 2, 50), share(2, 3, 30), share(2, 4, 20)], 300, 0, &mut [0; 2], &mut [0; 4])
+    published_examples(rt)?;
+    further_examples(rt)
 }

@@ -62,7 +62,7 @@ module _ {H M : Type 0} (owned numbered : H → ℕ) (belongs carried : M → �
       go : (b : Bool) → claimed o (m ∷ ms) hs ≡ adds o m hs + claimed o ms hs →
           sum (cond b (told (m ∷ ms) (numbered h) ∷ claimsOf owned (claimOf numbered belongs carried (m ∷ ms)) o hs) (claimsOf owned (claimOf numbered belongs carried (m ∷ ms)) o hs))
           ≡ (cond b (cond (eqb (belongs m) (numbered h)) (carried m) 0) 0 + adds o m hs)
-            + sum (cond b (told ms (numbered h) ∷ claimsOf owned (claimOf numbered belongs carried ms) o hs) (claimsOf owned (claimOf numbered belongs carried ms) o hs))
+          + sum (cond b (told ms (numbered h) ∷ claimsOf owned (claimOf numbered belongs carried ms) o hs) (claimsOf owned (claimOf numbered belongs carried ms) o hs))
       go true e =
           let a = sum-cons (told (m ∷ ms) (numbered h)) (claimsOf owned (claimOf numbered belongs carried (m ∷ ms)) o hs) in
           let b = sum-cons (told ms (numbered h)) (claimsOf owned (claimOf numbered belongs carried ms) o hs) in

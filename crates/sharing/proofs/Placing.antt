@@ -166,14 +166,14 @@ module _ {T : Type 0} (rule : ℕ → List ℕ → List ℕ) (keeps : Keeps rule
 
     pub shared-out : (new : List ℤ) → length xs ≡ length rows → new ≡ shared rule owned claimed o w rows xs → SharedOut rule owned claimed o w rows xs new
     shared-out new l e = subst (λ (ys : List ℤ). SharedOut rule owned claimed o w rows xs ys) (sym e) (record {
-        parts = shared-parts l;
-        others = shared-keeps;
-        adds = shared-adds l;
-        within = shared-within l;
-      })
+      parts = shared-parts l;
+      others = shared-keeps;
+      adds = shared-adds l;
+      within = shared-within l;
+    })
 
 pub figures-others : {T : Type 0} (rule : ℕ → List ℕ → List ℕ) (keeps : Keeps rule) (owned claimed : T → ℕ) (o q : ℕ) (w : ℤ) (rows : List T) (xs : List ℤ) → length xs ≡ length rows → (q ≡ o → ⊥) →
     figuresOf owned q rows (shared rule owned claimed o w rows xs) ≡ figuresOf owned q rows xs
 figures-others rule keeps owned claimed o q w rows xs l ne =
     figures-same owned q rows (shared rule owned claimed o w rows xs) xs (length-shared rule owned claimed o w rows xs ∙ l) l
-      (λ k r h e m. shared-keeps rule keeps owned claimed o w rows xs k r h e (λ z. ne (sym m ∙ z)))
+    (λ k r h e m. shared-keeps rule keeps owned claimed o w rows xs k r h e (λ z. ne (sym m ∙ z)))

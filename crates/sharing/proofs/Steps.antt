@@ -60,9 +60,9 @@ module _ {T : Type 0} (owned : T → ℕ) (owner : ℕ) where
         let z : n + 0 ≡ n = omega arith in
         let head : getD (drop n ps) 0 d ≡ v = getD-drop n ps 0 d ∙ ap (λ m. getD ps m d) z ∙ getD-default ps n d (pos 0) l ∙ sym is in
         let step : placed owned owner (drop i rows) (drop n ps) (drop i xs) ≡ v ∷ rest =
-            placed-at (drop n ps) xs k ∙ cond-true _ _ _ (eq-eqb (owned x) owner mine)
-            ∙ ap (λ h. h ∷ placed owned owner (drop (i + 1) rows) (drop 1 (drop n ps)) (drop (i + 1) xs)) head
-            ∙ ap (λ q. v ∷ placed owned owner (drop (i + 1) rows) q (drop (i + 1) xs)) (drop-drop 1 n ps) in
+        placed-at (drop n ps) xs k ∙ cond-true _ _ _ (eq-eqb (owned x) owner mine)
+        ∙ ap (λ h. h ∷ placed owned owner (drop (i + 1) rows) (drop 1 (drop n ps)) (drop (i + 1) xs)) head
+        ∙ ap (λ q. v ∷ placed owned owner (drop (i + 1) rows) q (drop (i + 1) xs)) (drop-drop 1 n ps) in
         ap (λ q. take (i + 1) (set xs i v) ++ placed owned owner (drop (i + 1) rows) (drop (n + 1) ps) q) (drop-set-lt (i + 1) xs i v lt)
         ∙ ap (λ q. q ++ rest) (take-more-set xs i v k)
         ∙ append-assoc (take i xs) (v ∷ []) rest

@@ -19,7 +19,11 @@ use tables::totals::Whose;
 use tables::totals::total;
 
 // What the owner's heads claim, in listed order: each what its members carry together. Callers are proved to stay inside the limits.
-pub fn gather_heads<H: Head, M: Carries>(heads: &[H], members: &[M], owner: u32) -> Table<u64, MOST_CLAIMS>
+pub fn gather_heads<H: Head, M: Carries>(
+    heads: &[H],
+    members: &[M],
+    owner: u32,
+) -> Table<u64, MOST_CLAIMS>
     requires few { ⌜ length (now heads) ≤ 256 ⌝ }
     requires light { ⌜ sumBy (M·Carries .carried) (now members) ≤ 6144000000 ⌝ }
     ensures { λ r. ⌜ listed r ≡ claimsOf (H·Owned .owned) (claimOf (H·Head .numbered) (M·Owned .owned) (M·Carries .carried) (now (members .entry))) owner (now (heads .entry)) ⌝ }
@@ -34,21 +38,32 @@ pub fn gather_heads<H: Head, M: Carries>(heads: &[H], members: &[M], owner: u32)
 }
 
 // Shares each of the owner's heads' figures out among the head's members.
-fn spread_out<B: DivisionRule, H: Head, M: Carries>(second: &B, heads: &[H], members: &[M], owner: u32, head_figures: &[i64], member_figures: &mut [i64])
+fn spread_out<B: DivisionRule, H: Head, M: Carries>(
+    second: &B,
+    heads: &[H],
+    members: &[M],
+    owner: u32,
+    head_figures: &[i64],
+    member_figures: &mut [i64],
+)
     requires few { ⌜ length (now members) ≤ 256 ⌝ }
     requires light { ⌜ sumBy (M·Carries .carried) (now members) ≤ 6144000000 ⌝ }
     requires heads { ⌜ length (now «head_figures») ≡ length (now heads) ⌝ }
     requires members { ⌜ length (now «member_figures») ≡ length (now members) ⌝ }
     requires small { ⌜ Small (H·Owned .owned) owner (now heads) (now «head_figures») ⌝ }
-    ensures {
-        λ _. ⌜ now («member_figures» .exit) ≡ memberFigures (B·DivisionRule .parts (now (second .entry))) (H·Owned .owned) (H·Head .numbered) (M·Owned .owned) (M·Carries .carried)
-            owner (now (members .entry)) (now (heads .entry)) (now («head_figures» .entry)) (now («member_figures» .entry)) ⌝
-    }
+    ensures { λ _. ⌜ now («member_figures» .exit) ≡ memberFigures (B·DivisionRule .parts (now (second .entry))) (H·Owned .owned) (H·Head .numbered) (M·Owned .owned) (M·Carries .carried)
+        owner (now (members .entry)) (now (heads .entry)) (now («head_figures» .entry)) (now («member_figures» .entry)) ⌝ }
 {
     for k in 0..heads.len() {
         let head = &heads[k];
         if head.owner() == owner {
-            share_out(second, members, head.number(), head_figures[k], member_figures);
+            share_out(
+                second,
+                members,
+                head.number(),
+                head_figures[k],
+                member_figures,
+            );
         }
     }
 }
@@ -70,18 +85,12 @@ pub fn share_out_levels<A: DivisionRule, B: DivisionRule, H: Head, M: Carries>(
     requires heads { ⌜ length (now «head_figures») ≡ length (now heads) ⌝ }
     requires members { ⌜ length (now «member_figures») ≡ length (now members) ⌝ }
     requires small { ⌜ natAbs whole ≤ 128000000 ⌝ }
-    ensures heads {
-        λ _. ⌜ now («head_figures» .exit) ≡ headFigures (A·DivisionRule .parts (now (first .entry))) (H·Owned .owned) (H·Head .numbered) (M·Owned .owned) (M·Carries .carried)
-            owner whole (now (members .entry)) (now (heads .entry)) (now («head_figures» .entry)) ⌝
-    }
-    ensures members {
-        λ _. ⌜ now («member_figures» .exit) ≡ memberFigures (B·DivisionRule .parts (now (second .entry))) (H·Owned .owned) (H·Head .numbered) (M·Owned .owned) (M·Carries .carried)
-            owner (now (members .entry)) (now (heads .entry)) (now («head_figures» .exit)) (now («member_figures» .entry)) ⌝
-    }
-    ensures levels {
-        λ _. ⌜ SharedOnLevels (A·DivisionRule .parts (now (first .entry))) (B·DivisionRule .parts (now (second .entry))) (H·Owned .owned) (H·Head .numbered) (M·Owned .owned) (M·Carries .carried)
-            owner whole (now (heads .entry)) (now (members .entry)) (now («head_figures» .entry)) (now («head_figures» .exit)) (now («member_figures» .entry)) (now («member_figures» .exit)) ⌝
-    }
+    ensures heads { λ _. ⌜ now («head_figures» .exit) ≡ headFigures (A·DivisionRule .parts (now (first .entry))) (H·Owned .owned) (H·Head .numbered) (M·Owned .owned) (M·Carries .carried)
+        owner whole (now (members .entry)) (now (heads .entry)) (now («head_figures» .entry)) ⌝ }
+    ensures members { λ _. ⌜ now («member_figures» .exit) ≡ memberFigures (B·DivisionRule .parts (now (second .entry))) (H·Owned .owned) (H·Head .numbered) (M·Owned .owned) (M·Carries .carried)
+        owner (now (members .entry)) (now (heads .entry)) (now («head_figures» .exit)) (now («member_figures» .entry)) ⌝ }
+    ensures levels { λ _. ⌜ SharedOnLevels (A·DivisionRule .parts (now (first .entry))) (B·DivisionRule .parts (now (second .entry))) (H·Owned .owned) (H·Head .numbered) (M·Owned .owned) (M·Carries .carried)
+        owner whole (now (heads .entry)) (now (members .entry)) (now («head_figures» .entry)) (now («head_figures» .exit)) (now («member_figures» .entry)) (now («member_figures» .exit)) ⌝ }
 {
     let claims = gather_heads(heads, members, owner);
     give_out(first, claims.as_slice(), heads, owner, whole, head_figures);

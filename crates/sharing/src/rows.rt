@@ -46,16 +46,21 @@ fn scatter<T: Owned>(rows: &[T], owner: u32, parts: &[i64], figures: &mut [i64])
 
 // Divides the whole by what the owner's rows claim, and gives each row its part.
 // The limits rule out that the division is refused.
-pub(crate) fn give_out<R: DivisionRule, T: Owned>(rule: &R, claims: &[u64], rows: &[T], owner: u32, whole: i64, figures: &mut [i64])
+pub(crate) fn give_out<R: DivisionRule, T: Owned>(
+    rule: &R,
+    claims: &[u64],
+    rows: &[T],
+    owner: u32,
+    whole: i64,
+    figures: &mut [i64],
+)
     requires few { ⌜ length (now claims) ≤ 256 ⌝ }
     requires each { ⌜ length (now claims) ≡ countOf (T·Owned .owned) owner (now rows) ⌝ }
     requires light { ⌜ sum (now claims) ≤ 6144000000 ⌝ }
     requires small { ⌜ natAbs whole ≤ 128000000 ⌝ }
     requires room { ⌜ length (now figures) ≡ length (now rows) ⌝ }
-    ensures {
-        λ _. ⌜ now (figures .exit) ≡ placed (T·Owned .owned) owner (now (rows .entry))
-            (signedParts whole (R·DivisionRule .parts (now (rule .entry)) (natAbs whole) (now (claims .entry)))) (now (figures .entry)) ⌝
-    }
+    ensures { λ _. ⌜ now (figures .exit) ≡ placed (T·Owned .owned) owner (now (rows .entry))
+        (signedParts whole (R·DivisionRule .parts (now (rule .entry)) (natAbs whole) (now (claims .entry)))) (now (figures .entry)) ⌝ }
 {
     if claims.len() == 0 {
         return;
@@ -71,7 +76,13 @@ pub(crate) fn give_out<R: DivisionRule, T: Owned>(rule: &R, claims: &[u64], rows
 
 // Shares a whole out by the rule among the owner's rows, by what they carry.
 // Callers are proved to stay inside the limits, so that the division is not refused.
-pub fn share_out<R: DivisionRule, T: Carries>(rule: &R, rows: &[T], owner: u32, whole: i64, figures: &mut [i64])
+pub fn share_out<R: DivisionRule, T: Carries>(
+    rule: &R,
+    rows: &[T],
+    owner: u32,
+    whole: i64,
+    figures: &mut [i64],
+)
     requires few { ⌜ length (now rows) ≤ 256 ⌝ }
     requires light { ⌜ sum (claimsOf (T·Owned .owned) (T·Carries .carried) owner (now rows)) ≤ 6144000000 ⌝ }
     requires small { ⌜ natAbs whole ≤ 128000000 ⌝ }

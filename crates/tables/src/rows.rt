@@ -10,7 +10,10 @@ impl<T: Copy, const N: usize> Table<T, N> {
     pub fn new(blank: T) -> Table<T, N>
         ensures { λ r. ⌜ listed r ≡ [] ⌝ }
     {
-        Table { rows: [blank; N], len: 0 }
+        Table {
+            rows: [blank; N],
+            len: 0,
+        }
     }
 
     // The listed rows.

@@ -26,10 +26,8 @@ impl Whose {
 
 // What the rows that count carry together, unless that is over `most`.
 pub fn total_within<T: Carries>(rows: &[T], whose: Whose, most: u64) -> Option<u64>
-    ensures {
-        λ r. ⌜ Cases r (most < sum (carriedBy whose (T·Owned .owned) (T·Carries .carried) (now (rows .entry))))
-            (λ t. (t ≡ sum (carriedBy whose (T·Owned .owned) (T·Carries .carried) (now (rows .entry)))) × (t ≤ most)) ⌝
-    }
+    ensures { λ r. ⌜ Cases r (most < sum (carriedBy whose (T·Owned .owned) (T·Carries .carried) (now (rows .entry))))
+        (λ t. (t ≡ sum (carriedBy whose (T·Owned .owned) (T·Carries .carried) (now (rows .entry)))) × (t ≤ most)) ⌝ }
 {
     let mut total: u64 = 0;
     for row in rows {

@@ -14,7 +14,7 @@ with-sign-requires c κs = all-getD _ (c .args .parts .now) (c .loop-i .i) 0 (om
 pub loop-i-again : need.loop-i-again
 loop-i-again c =
     signs-more (toZ w64 (ofZ w64 (c .args .whole))) (c .args .parts .now) (c .loop-i .into) (c .loop-i .i) _ (omega arith) (omega arith)
-        (back (c .with-sign .result) (record { sfits = c .with-sign .ok }) ∙ c .with-sign .ensures) (c .loop-i .inv)
+    (back (c .with-sign .result) (record { sfits = c .with-sign .ok }) ∙ c .with-sign .ensures) (c .loop-i .inv)
 
 pub returns : need.returns
 returns c =

@@ -53,27 +53,30 @@ loop-i-again g c =
     let all = c .total-all .ensures ∙ ap sum (carried-all cs) in
     let out = listed (c .loop-i .lines) in
     elim (c .if-owner .came) [
-      then-owner w ↦
-        let mine = sym (c .owner .ensures) ∙ w .if-owner .taken in
-        let m = count-yes owned (c .args .owner) rows i x (omega arith) (c .index-rows-i .is) mine in
-        let pushed = ap listed (w .lines-is) ∙ w .push .ensures in
-        let x64 : ℤ = toZ w64 (ofZ w64 (getD xs i (pos 0))) in
-        let fits : SFits w64 (getD xs i (pos 0)) = search needs in
-        let is : w .work-out-part .result ≡ line (known x) (getD cs n 0) (getD xs i (pos 0)) =
-            w .work-out-part .ensures
-            ∙ ap (λ t. workingOf whole t (length cs) (w .known-by .result) (getD cs n 0) x64) all
-            ∙ ap (λ k. line k (getD cs n 0) x64) (w .known-by .ensures)
-            ∙ ap (line (known x) (getD cs n 0)) (back (getD xs i (pos 0)) fits) in
-        (omega (arith, ap length pushed, length-push out (w .work-out-part .result), c .loop-i .inv .0),
-         omega (arith, w .n-is, m, c .loop-i .inv .1),
-         rw (w .n-is) (lines-yes owned known (c .args .owner) line rows i x (omega arith) (c .index-rows-i .is) cs n xs lx out _ _ _ mine is pushed (c .loop-i .inv .2)))
-    | else-owner w ↦
-        let other : owned x ≡ c .args .owner → ⊥ = λ e. w .if-owner .left (c .owner .ensures ∙ e) in
-        let m = count-no owned (c .args .owner) rows i x (omega arith) (c .index-rows-i .is) other in
-        let same = ap listed (w .lines-is) in
-        (omega (arith, ap length same, c .loop-i .inv .0),
-         omega (arith, w .n-is, m, c .loop-i .inv .1),
-         rw (w .n-is) (lines-no owned known (c .args .owner) line rows i x (omega arith) (c .index-rows-i .is) cs n xs lx out _ _ other same (c .loop-i .inv .2))) ]
+      | then-owner w ↦
+          let mine = sym (c .owner .ensures) ∙ w .if-owner .taken in
+          let m = count-yes owned (c .args .owner) rows i x (omega arith) (c .index-rows-i .is) mine in
+          let pushed = ap listed (w .lines-is) ∙ w .push .ensures in
+          let x64 : ℤ = toZ w64 (ofZ w64 (getD xs i (pos 0))) in
+          let fits : SFits w64 (getD xs i (pos 0)) = search needs in
+          let is : w .work-out-part .result ≡ line (known x) (getD cs n 0) (getD xs i (pos 0)) =
+          w .work-out-part .ensures
+          ∙ ap (λ t. workingOf whole t (length cs) (w .known-by .result) (getD cs n 0) x64) all
+          ∙ ap (λ k. line k (getD cs n 0) x64) (w .known-by .ensures)
+          ∙ ap (line (known x) (getD cs n 0)) (back (getD xs i (pos 0)) fits) in (
+            omega (arith, ap length pushed, length-push out (w .work-out-part .result), c .loop-i .inv .0),
+            omega (arith, w .n-is, m, c .loop-i .inv .1),
+            rw (w .n-is) (lines-yes owned known (c .args .owner) line rows i x (omega arith) (c .index-rows-i .is) cs n xs lx out _ _ _ mine is pushed (c .loop-i .inv .2)),
+          )
+      | else-owner w ↦
+          let other : owned x ≡ c .args .owner → ⊥ = λ e. w .if-owner .left (c .owner .ensures ∙ e) in
+          let m = count-no owned (c .args .owner) rows i x (omega arith) (c .index-rows-i .is) other in
+          let same = ap listed (w .lines-is) in (
+            omega (arith, ap length same, c .loop-i .inv .0),
+            omega (arith, w .n-is, m, c .loop-i .inv .1),
+            rw (w .n-is) (lines-no owned known (c .args .owner) line rows i x (omega arith) (c .index-rows-i .is) cs n xs lx out _ _ other same (c .loop-i .inv .2)),
+          )
+    ]
 
 pub returns : need.returns
 returns g c =

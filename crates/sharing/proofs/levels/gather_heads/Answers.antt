@@ -22,15 +22,18 @@ loop-head-again g c =
     let i = c .loop-head .head-index in
     let x = c .head-item .result in
     elim (c .if-owner .came) [
-      then-owner w ↦
-        let pushed = ap listed (w .claims-is) ∙ w .push .ensures in
-        let is = w .total .ensures ∙ ap (λ n. sum (claimsOf (g .M·Owned .owned) (g .M·Carries .carried) n members)) (w .number .ensures) in
-        (omega (arith, ap length pushed, length-push (listed (c .loop-head .claims)) (w .total .result), c .loop-head .inv .0),
-         gather-yes (g .H·Owned .owned) (c .args .owner) heads i x (c .loop-head-test .taken) (c .head-item .is) claimed (listed (c .loop-head .claims)) _ _ _ (sym (c .owner .ensures) ∙ w .if-owner .taken) is pushed (c .loop-head .inv .1))
-    | else-owner w ↦
-        let same = ap listed (w .claims-is) in
-        (omega (arith, ap length same, c .loop-head .inv .0),
-         gather-no (g .H·Owned .owned) (c .args .owner) heads i x (c .loop-head-test .taken) (c .head-item .is) claimed (listed (c .loop-head .claims)) _ _ (λ e. w .if-owner .left (c .owner .ensures ∙ e)) same (c .loop-head .inv .1)) ]
+      | then-owner w ↦
+          let pushed = ap listed (w .claims-is) ∙ w .push .ensures in
+          let is = w .total .ensures ∙ ap (λ n. sum (claimsOf (g .M·Owned .owned) (g .M·Carries .carried) n members)) (w .number .ensures) in (
+            omega (arith, ap length pushed, length-push (listed (c .loop-head .claims)) (w .total .result), c .loop-head .inv .0),
+            gather-yes (g .H·Owned .owned) (c .args .owner) heads i x (c .loop-head-test .taken) (c .head-item .is) claimed (listed (c .loop-head .claims)) _ _ _ (sym (c .owner .ensures) ∙ w .if-owner .taken) is pushed (c .loop-head .inv .1),
+          )
+      | else-owner w ↦
+          let same = ap listed (w .claims-is) in (
+            omega (arith, ap length same, c .loop-head .inv .0),
+            gather-no (g .H·Owned .owned) (c .args .owner) heads i x (c .loop-head-test .taken) (c .head-item .is) claimed (listed (c .loop-head .claims)) _ _ (λ e. w .if-owner .left (c .owner .ensures ∙ e)) same (c .loop-head .inv .1),
+          )
+    ]
 
 pub returns : need.returns
 returns g c =

@@ -35,16 +35,17 @@ loop-k-again g c =
     let x = c .index-heads-k .result in
     let lt : k < length ps = omega (arith, c .pre .heads, c .loop-k-test .taken) in
     elim (c .if-owner .came) [
-      then-owner w ↦
-        let mine = sym (c .owner .ensures) ∙ w .if-owner .taken in
-        let h = c .pre .small k x (c .loop-k-test .taken) (c .index-heads-k .is) mine in
-        spread-yes ho hn mo mc f (c .args .owner) ms hs ps k x (c .loop-k-test .taken) (c .index-heads-k .is) lt xs _ _ mine
+      | then-owner w ↦
+          let mine = sym (c .owner .ensures) ∙ w .if-owner .taken in
+          let h = c .pre .small k x (c .loop-k-test .taken) (c .index-heads-k .is) mine in
+          spread-yes ho hn mo mc f (c .args .owner) ms hs ps k x (c .loop-k-test .taken) (c .index-heads-k .is) lt xs _ _ mine
           (w .member-figures-is ∙ w .share-out .ensures .value
-           ∙ ap (λ z. shared f mo mc (w .number .result) z ms xs) (back-small (getD ps k (pos 0)) h)
-           ∙ ap (λ n. shared f mo mc n (getD ps k (pos 0)) ms xs) (w .number .ensures)) (c .loop-k .inv)
-    | else-owner w ↦
-        ap (memberFigures f ho hn mo mc (c .args .owner) ms (drop (k + 1) hs) (drop (k + 1) ps)) (w .member-figures-is)
-        ∙ spread-no ho hn mo mc f (c .args .owner) ms hs ps k x (c .loop-k-test .taken) (c .index-heads-k .is) lt xs _ (λ e. w .if-owner .left (c .owner .ensures ∙ e)) (c .loop-k .inv) ]
+          ∙ ap (λ z. shared f mo mc (w .number .result) z ms xs) (back-small (getD ps k (pos 0)) h)
+          ∙ ap (λ n. shared f mo mc n (getD ps k (pos 0)) ms xs) (w .number .ensures)) (c .loop-k .inv)
+      | else-owner w ↦
+          ap (memberFigures f ho hn mo mc (c .args .owner) ms (drop (k + 1) hs) (drop (k + 1) ps)) (w .member-figures-is)
+          ∙ spread-no ho hn mo mc f (c .args .owner) ms hs ps k x (c .loop-k-test .taken) (c .index-heads-k .is) lt xs _ (λ e. w .if-owner .left (c .owner .ensures ∙ e)) (c .loop-k .inv)
+    ]
 
 pub returns : need.returns
 returns g c = spread-all (g .H·Owned .owned) (g .H·Head .numbered) (g .M·Owned .owned) (g .M·Carries .carried) (g .B·DivisionRule .parts (c .args .second .now)) (c .args .owner) (c .args .members .now) (c .args .heads .now) (c .args .head-figures .now) (c .loop-k .member-figures) _ (c .loop-k .k) (omega arith) (c .loop-k .inv)

@@ -26,18 +26,21 @@ loop-i-again g c =
     let n = c .loop-i .n in
     let parts = c .args .parts .now in
     elim (c .if-owner .came) [
-      then-owner w ↦
-        let mine = sym (c .owner .ensures) ∙ w .if-owner .taken in
-        let m = count-yes owned (c .args .owner) rows i x (omega arith) (c .index-rows-i .is) mine in
-        let lt : n < length parts = omega (arith, m, c .loop-i .inv .0) in
-        let fits : SFits w64 (getD parts n (pos 0)) = search needs in
-        (omega (arith, w .n-is, m, c .loop-i .inv .0),
-         rw (w .n-is, w .figures-is) (scatter-yes owned (c .args .owner) rows i x (omega arith) (c .index-rows-i .is) n parts (c .loop-i .figures) _ (toZ w64 (ofZ w64 (getD parts n (pos 0)))) (omega arith) lt mine (back (getD parts n (pos 0)) fits) (c .loop-i .inv .1)))
-    | else-owner w ↦
-        let other : owned x ≡ c .args .owner → ⊥ = λ e. w .if-owner .left (c .owner .ensures ∙ e) in
-        let m = count-no owned (c .args .owner) rows i x (omega arith) (c .index-rows-i .is) other in
-        (omega (arith, w .n-is, m, c .loop-i .inv .0),
-         rw (w .n-is, w .figures-is) (scatter-no owned (c .args .owner) rows i x (omega arith) (c .index-rows-i .is) (drop n parts) (c .loop-i .figures) _ (omega arith) other (c .loop-i .inv .1))) ]
+      | then-owner w ↦
+          let mine = sym (c .owner .ensures) ∙ w .if-owner .taken in
+          let m = count-yes owned (c .args .owner) rows i x (omega arith) (c .index-rows-i .is) mine in
+          let lt : n < length parts = omega (arith, m, c .loop-i .inv .0) in
+          let fits : SFits w64 (getD parts n (pos 0)) = search needs in (
+            omega (arith, w .n-is, m, c .loop-i .inv .0),
+            rw (w .n-is, w .figures-is) (scatter-yes owned (c .args .owner) rows i x (omega arith) (c .index-rows-i .is) n parts (c .loop-i .figures) _ (toZ w64 (ofZ w64 (getD parts n (pos 0)))) (omega arith) lt mine (back (getD parts n (pos 0)) fits) (c .loop-i .inv .1)),
+          )
+      | else-owner w ↦
+          let other : owned x ≡ c .args .owner → ⊥ = λ e. w .if-owner .left (c .owner .ensures ∙ e) in
+          let m = count-no owned (c .args .owner) rows i x (omega arith) (c .index-rows-i .is) other in (
+            omega (arith, w .n-is, m, c .loop-i .inv .0),
+            rw (w .n-is, w .figures-is) (scatter-no owned (c .args .owner) rows i x (omega arith) (c .index-rows-i .is) (drop n parts) (c .loop-i .figures) _ (omega arith) other (c .loop-i .inv .1)),
+          )
+    ]
 
 pub returns : need.returns
 returns g c =

@@ -24,14 +24,15 @@ pub loop-row-again : need.loop-row-again
 loop-row-again g c =
     let x = c .row-item .result in
     elim (c .if-counts .came) [
-      then-counts·else-kwh-most w ↦
-        let p = tested (c .args .whose) _ _ _ (w .if-counts .ensures tt) (c .owner .ensures) in
-        let step = sum-yes (λ r. counts (c .args .whose) (g .T·Owned .owned r)) (g .T·Carries .carried) (c .args .rows .now) (c .loop-row .row-index) x (c .loop-row-test .taken) (c .row-item .is) p in
-        (omega (arith, w .total-is, w .if-kwh-most .left, c .loop-row .inv .0), omega (arith, w .total-is, step, w .kwh-kwh .ensures, c .loop-row .inv .1))
-    | else-counts w ↦
-        let p = tested (c .args .whose) _ _ _ (w .if-counts .ensures tt) (c .owner .ensures) in
-        let step = ap sum (carried-no (λ r. counts (c .args .whose) (g .T·Owned .owned r)) (g .T·Carries .carried) (c .args .rows .now) (c .loop-row .row-index) x (c .loop-row-test .taken) (c .row-item .is) p) in
-        (omega (arith, w .total-is, c .loop-row .inv .0), omega (arith, w .total-is, step, c .loop-row .inv .1)) ]
+      | then-counts·else-kwh-most w ↦
+          let p = tested (c .args .whose) _ _ _ (w .if-counts .ensures tt) (c .owner .ensures) in
+          let step = sum-yes (λ r. counts (c .args .whose) (g .T·Owned .owned r)) (g .T·Carries .carried) (c .args .rows .now) (c .loop-row .row-index) x (c .loop-row-test .taken) (c .row-item .is) p in
+          (omega (arith, w .total-is, w .if-kwh-most .left, c .loop-row .inv .0), omega (arith, w .total-is, step, w .kwh-kwh .ensures, c .loop-row .inv .1))
+      | else-counts w ↦
+          let p = tested (c .args .whose) _ _ _ (w .if-counts .ensures tt) (c .owner .ensures) in
+          let step = ap sum (carried-no (λ r. counts (c .args .whose) (g .T·Owned .owned r)) (g .T·Carries .carried) (c .args .rows .now) (c .loop-row .row-index) x (c .loop-row-test .taken) (c .row-item .is) p) in
+          (omega (arith, w .total-is, c .loop-row .inv .0), omega (arith, w .total-is, step, c .loop-row .inv .1))
+    ]
 
 pub returns : need.returns
 returns g c =

@@ -41,6 +41,6 @@ returns c =
     let ok = c .in-Continue-all .ensures tt .0 in
     let given = c .total-given .ensures ∙ ap sum (carried-all (c .round-down .last .into)) ∙ ap sum (c .round-down .ensures) in
     let is : c .top-up .last .into ≡ proRata w cs =
-        c .top-up .ensures ∙ ap (λ n. topped (w - n) (c .round-down .last .into)) given ∙ ap (topped (w - sum (floors w cs))) (c .round-down .ensures) in
+    c .top-up .ensures ∙ ap (λ n. topped (w - n) (c .round-down .last .into)) given ∙ ap (topped (w - sum (floors w cs))) (c .round-down .ensures) in
     let P : List ℕ → Type 0 = λ parts. EachWithinOne w cs parts in
     record { exact = (ok, is); near = subst P (sym is) (near w cs) }

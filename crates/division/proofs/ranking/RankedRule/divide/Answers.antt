@@ -21,6 +21,8 @@ pub returns : need.returns
 returns c =
     let ok = c .in-Continue-admitted .ensures tt .0 in
     let a = admits (c .args .whole) (c .args .claims .now) (length (c .args .into .now)) ok in
-    let end : c .loop-i .i ≡ length (c .args .claims .now) - 1 = omega arith in
-    (ok, ranked-last (c .loop-i .into) (c .args .claims .now) _ (c .loop-i .remaining) _ (omega arith) (omega arith)
-         (rw end at (c .loop-i .inv)))
+    let end : c .loop-i .i ≡ length (c .args .claims .now) - 1 = omega arith in (
+      ok,
+      ranked-last (c .loop-i .into) (c .args .claims .now) _ (c .loop-i .remaining) _ (omega arith) (omega arith)
+          (rw end at (c .loop-i .inv)),
+    )
