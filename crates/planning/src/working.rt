@@ -41,7 +41,7 @@ pub struct Working {
 }
 
 // What a line shows as corrected counts, by its magnitude, in a total over lines.
-pub impl Owned for Working as WorkingOwned {
+impl Owned for Working as WorkingOwned {
     ghost owned = { λ w. w .number };
 
     fn owner(&self) -> u32 {
@@ -49,7 +49,7 @@ pub impl Owned for Working as WorkingOwned {
     }
 }
 
-pub impl Carries for Working as WorkingCarries {
+impl Carries for Working as WorkingCarries {
     ghost carried = { λ w. natAbs (w .part) };
 
     fn kwh(&self) -> u64 {
@@ -65,7 +65,7 @@ pub struct Worked {
 }
 
 // A row that shows in a working, by the number that it is known by.
-pub trait Claimant: Owned {
+trait Claimant: Owned {
     ghost known: { Self → ℕ };
 
     fn known_by(&self) -> u32
@@ -73,7 +73,7 @@ pub trait Claimant: Owned {
 }
 
 // A group is known by its own number.
-pub impl Claimant for GenerationGroup as GroupClaimant {
+impl Claimant for GenerationGroup as GroupClaimant {
     ghost known = { λ g. g .number };
 
     fn known_by(&self) -> u32 {
@@ -82,7 +82,7 @@ pub impl Claimant for GenerationGroup as GroupClaimant {
 }
 
 // A share is known by its plant's.
-pub impl Claimant for Share as ShareClaimant {
+impl Claimant for Share as ShareClaimant {
     ghost known = { λ s. s .plant };
 
     fn known_by(&self) -> u32 {
