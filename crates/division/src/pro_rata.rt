@@ -6,7 +6,7 @@ ghost use lib.ListN.{length};
 ghost use Rattle.std.specs.shelf.Lists.{sum};
 ghost use Rattle.division.specs.Limits.{divisible, Divided};
 ghost use Rattle.division.specs.Rules.{roundedDown, floors, topped, proRata};
-ghost use Rattle.division.specs.Nearness.{Near};
+ghost use Rattle.division.specs.Nearness.{Near, EachWithinOne};
 use crate::DivisionRule;
 use crate::admitted;
 use tables::bounds::FigureCarries;
@@ -52,6 +52,18 @@ fn top_up(into: &mut [u64], left: usize)
     }
 }
 
+// Writes the parts: rounded down, and then what is left over, one kWh each to the first claimants.
+fn write_in_proportion(whole: u64, all: u64, claims: &[u64], into: &mut [u64])
+    requires admitted { ⌜ divisible whole (now claims) (length (now into)) ≡ true ⌝ }
+    requires all { ⌜ all ≡ sum (now claims) ⌝ }
+    ensures parts { λ _. ⌜ now (into .exit) ≡ proRata whole (now (claims .entry)) ⌝ }
+    ensures near { λ _. ⌜ EachWithinOne whole (now (claims .entry)) (now (into .exit)) ⌝ }
+{
+    round_down(whole, all, claims, into);
+    let given = total(into, Whose::Everyone);
+    top_up(into, (whole - given) as usize);
+}
+
 // Whole times claim over total, rounded down; what is left over goes one kWh each to the first claimants in listed order.
 #[derive(Clone, Copy)]
 pub struct ProRata;
@@ -64,9 +76,7 @@ pub impl DivisionRule for ProRata as ProRataRule {
         ensures near { λ r. ⌜ Near whole (now (claims .entry)) (now (into .exit)) r ⌝ }
     {
         let all = admitted(whole, claims, into.len())?;
-        round_down(whole, all, claims, into);
-        let given = total(into, Whose::Everyone);
-        top_up(into, (whole - given) as usize);
+        write_in_proportion(whole, all, claims, into);
         Ok(())
     }
 }

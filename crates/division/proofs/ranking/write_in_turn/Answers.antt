@@ -6,11 +6,11 @@ use mathlib.Core.List.{_++_}
 use Rattle.division.specs.Rules.{ranked}
 use Rattle.division.proofs.Admitting.{admits}
 use Rattle.division.proofs.Turns.{ranked-more, ranked-last}
-use Rattle.division.proofs.ranking.RankedRule.divide.Needs as need
+use Rattle.division.proofs.ranking.write_in_turn.Needs as need
 
 pub loop-i-again : need.loop-i-again
 loop-i-again c =
-    let a = admits (c .args .whole) (c .args .claims .now) (length (c .args .into .now)) (c .in-Continue-admitted .ensures tt .0) in
+    let a = admits (c .args .whole) (c .args .claims .now) (length (c .args .into .now)) (c .pre) in
     let xs = c .loop-i .into in
     let cs = c .args .claims .now in
     let i = c .loop-i .i in
@@ -19,10 +19,6 @@ loop-i-again c =
 
 pub returns : need.returns
 returns c =
-    let ok = c .in-Continue-admitted .ensures tt .0 in
-    let a = admits (c .args .whole) (c .args .claims .now) (length (c .args .into .now)) ok in
-    let end : c .loop-i .i ≡ length (c .args .claims .now) - 1 = omega arith in (
-      ok,
-      ranked-last (c .loop-i .into) (c .args .claims .now) _ (c .loop-i .remaining) _ (omega arith) (omega arith)
-          (rw end at (c .loop-i .inv)),
-    )
+    let a = admits (c .args .whole) (c .args .claims .now) (length (c .args .into .now)) (c .pre) in
+    let end : c .loop-i .i ≡ length (c .args .claims .now) - 1 = omega arith in
+    ranked-last (c .loop-i .into) (c .args .claims .now) _ (c .loop-i .remaining) _ (omega arith) (omega arith) (rw end at (c .loop-i .inv))
