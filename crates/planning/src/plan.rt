@@ -7,7 +7,7 @@ ghost use Rattle.planning.specs.Plans.{Limits, PlanCorrected};
 use division::DivisionRule;
 use sharing::levels::share_out_levels;
 use terms::balance::Balance;
-use terms::records::GenerationGroup;
+use terms::records::Group;
 use terms::records::GroupHead;
 use terms::records::GroupOwned;
 use terms::records::Share;
@@ -21,7 +21,7 @@ pub fn correct_plan<A: DivisionRule, B: DivisionRule>(
     second: &B,
     contract: u32,
     balance: &Balance,
-    groups: &[GenerationGroup],
+    groups: &[Group],
     shares: &[Share],
     group_plans: &mut [i64],
     share_plans: &mut [i64],

@@ -23,7 +23,7 @@ use tables::bounds::FigureOwned;
 use tables::bounds::Owned;
 use tables::totals::Whose;
 use tables::totals::total;
-use terms::records::GenerationGroup;
+use terms::records::Group;
 use terms::records::GroupHead;
 use terms::records::GroupOwned;
 use terms::records::Share;
@@ -73,7 +73,7 @@ trait Claimant: Owned {
 }
 
 // A group is known by its own number.
-impl Claimant for GenerationGroup as GroupClaimant {
+impl Claimant for Group as GroupClaimant {
     ghost known = { λ g. g .number };
 
     fn known_by(&self) -> u32 {
@@ -181,7 +181,7 @@ fn work_out<T: Claimant>(
 
 // Works out how a contract's deemed plan was divided among its groups. Callers are proved to hand over plans that were divided so.
 pub fn work_out_groups(
-    groups: &[GenerationGroup],
+    groups: &[Group],
     shares: &[Share],
     contract: u32,
     deemed: i64,

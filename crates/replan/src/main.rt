@@ -12,19 +12,21 @@ use planning::working::work_out_groups;
 use planning::working::work_out_shares;
 use std::io;
 use terms::balance::Balance;
-use terms::records::GenerationGroup;
+use terms::records::Group;
+use terms::records::GroupSort;
 use terms::records::Share;
 use terms::text::BalanceText;
 
 // The producer's contract.
 const CONTRACT: u32 = 11;
 
-fn group(number: u32) -> GenerationGroup
+fn group(number: u32) -> Group
     ensures { λ r. ⌜ r .number ≡ number ⌝ }
 {
-    GenerationGroup {
+    Group {
         number,
         contract: CONTRACT,
+        sort: GroupSort::Generation,
     }
 }
 
@@ -52,7 +54,7 @@ fn show(rt: LibcRuntime, what: &str, worked: &Worked) -> io::Result<()> {
 fn replan(
     rt: LibcRuntime,
     title: &str,
-    groups: &[GenerationGroup],
+    groups: &[Group],
     shares: &[Share],
     sold: u32,
     bought: u32,

@@ -1,13 +1,50 @@
 // Records of a book, as they are filed, and what they are to totals and divisions.
+ghost use Rattle.terms.specs.Plans.{planOf};
+use crate::codes::Direction;
+use crate::codes::Kind;
+use crate::codes::Method;
+use crate::codes::OwnerKind;
+use crate::partner::Partner;
 use tables::bounds::Carries;
 use tables::bounds::Head;
 use tables::bounds::Owned;
 
-// A balancing group of a generation contract: the plants that the contract's owner answers for together.
+// A contract: a party's standing in the area. Only a retail contract's loss multiplier, in ten-thousandths, is used.
 #[derive(Clone, Copy)]
-pub struct GenerationGroup {
+pub struct Contract {
+    pub number: u32,
+    pub kind: Kind,
+    pub multiplier: u32,
+}
+
+// A balancing group: the unit of a contract for which an imbalance is computed.
+#[derive(Clone, Copy)]
+pub struct Group {
     pub number: u32,
     pub contract: u32,
+    pub sort: GroupSort,
+}
+
+// A generation group holds shares in plants; a curtailment group calls customers to use less.
+#[derive(Clone, Copy)]
+pub enum GroupSort {
+    Generation,
+    Curtailment(Curtailment),
+}
+
+// What a curtailment group files: whose customers it calls, what they would use, how much of it they are to save, and how a difference is settled.
+#[derive(Clone, Copy)]
+pub struct Curtailment {
+    pub retailer: u32,
+    pub baseline: u32,
+    pub plan: u32,
+    pub method: Method,
+}
+
+// A plant: a metered power station.
+#[derive(Clone, Copy)]
+pub struct Plant {
+    pub meter: u32,
 }
 
 // A share: what one generation group takes of one plant.
@@ -18,6 +55,24 @@ pub struct Share {
     pub plant: u32,
     pub rank: u32,
     pub planned: u32,
+}
+
+// A line: one trade of one contract, with the kWh planned and the kWh agreed.
+#[derive(Clone, Copy)]
+pub struct Line {
+    pub contract: u32,
+    pub direction: Direction,
+    pub partner: Partner,
+    pub planned: u32,
+    pub agreed: u32,
+}
+
+// A place: a metered customer site of a retail contract or a curtailment group.
+#[derive(Clone, Copy)]
+pub struct Place {
+    pub meter: u32,
+    pub owner_kind: OwnerKind,
+    pub owner: u32,
 }
 
 // A share belongs to its group and carries what it planned.
@@ -38,7 +93,7 @@ pub impl Carries for Share as ShareCarries {
 }
 
 // A group belongs to its contract, and its shares are listed under its number.
-pub impl Owned for GenerationGroup as GroupOwned {
+pub impl Owned for Group as GroupOwned {
     ghost owned = { λ g. g .contract };
 
     fn owner(&self) -> u32 {
@@ -46,10 +101,22 @@ pub impl Owned for GenerationGroup as GroupOwned {
     }
 }
 
-pub impl Head for GenerationGroup as GroupHead {
+pub impl Head for Group as GroupHead {
     ghost numbered = { λ g. g .number };
 
     fn number(&self) -> u32 {
         self.number
+    }
+}
+
+// A curtailment group carries its plan, a generation group nothing of its own.
+pub impl Carries for Group as GroupCarries {
+    ghost carried = { λ g. planOf g };
+
+    fn kwh(&self) -> u64 {
+        match self.sort {
+            GroupSort::Generation => 0,
+            GroupSort::Curtailment(curtailment) => u64::from(curtailment.plan),
+        }
     }
 }

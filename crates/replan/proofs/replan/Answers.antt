@@ -4,7 +4,8 @@ use native.Mathlib.Omega.{arith}
 use lib.IntN.{ℤ, pos, natAbs, _-ℤ_}
 use lib.ListN.{length, getD}
 use Rattle.std.proofs.shelf.Lists.{getD-default}
-use Rattle.terms.specs.declared.records.GenerationGroup.{GenerationGroup}
+use Rattle.terms.specs.declared.records.Group.{Group}
+use Rattle.terms.specs.declared.records.GroupSort.the-variants.{Generation}
 use Rattle.division.proofs.Signs.{back-small}
 use Rattle.planning.specs.Plans.{plansOfShares, shareClaims}
 use Rattle.planning.proofs.Deemed.{apart-small}
@@ -17,7 +18,7 @@ work-out-shares-worked-requires c κs =
     let k = c .loop-k .k in
     let groups = c .args .groups .now in
     let shares = c .args .shares .now in
-    let blank : GenerationGroup = record { number = 0; contract = 0 } in
+    let blank : Group = record { number = 0; contract = 0; sort = Generation } in
     let h = getD groups k blank in
     let lt : k < length groups = c .loop-k-test .taken in
     let read : h ≡ getD groups k h = getD-default groups k blank h lt in

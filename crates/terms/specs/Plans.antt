@@ -1,0 +1,13 @@
+-- What a group files as its plan.
+use Prim.Native.Nat.{ℕ}
+use Rattle.terms.specs.declared.records.Group.{Group}
+use Rattle.terms.specs.declared.records.GroupSort.{GroupSort}
+use Rattle.terms.specs.declared.records.GroupSort.the-variants.{Generation, Curtailment}
+
+-- A curtailment group files its plan, a generation group none: its shares do.
+abbrev pub planIn : GroupSort → ℕ
+planIn Generation = 0
+planIn (Curtailment c) = c .plan
+
+abbrev pub planOf : Group → ℕ
+planOf g = planIn (g .sort)
