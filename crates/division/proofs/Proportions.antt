@@ -112,19 +112,6 @@ length-floors w cs = length-map cs _
 pub counted-le : (t c m : ℕ) → 1 ≤ m → c ≤ m → counted t c ≤ m
 counted-le t c m h k = grind (arith, tells)
 
--- One turn of the loop that rounds down.
-pub floors-more : (w : ℕ) (cs xs : List ℕ) (i part : ℕ) → i < length cs → i < length xs →
-    part ≡ roundedDown w (sum cs) (length cs) (getD cs i 0) →
-    take i xs ≡ take i (floors w cs) → take (i + 1) (set xs i part) ≡ take (i + 1) (floors w cs)
-floors-more w cs xs i part h k is front =
-    let l : i < length (floors w cs) = omega (arith, length-floors w cs) in
-    let e : part ≡ getD (floors w cs) i 0 = is ∙ sym (getD-floors w cs i h) in
-    take-more-set xs i part k ∙ ap (λ a. a ++ part ∷ []) front ∙ ap (λ p. take i (floors w cs) ++ p ∷ []) e ∙ sym (take-more (floors w cs) i 0 l)
-
-pub floors-all : (w : ℕ) (cs xs : List ℕ) (i : ℕ) → length xs ≡ length cs → length cs ≤ i → take i xs ≡ take i (floors w cs) → xs ≡ floors w cs
-floors-all w cs xs i e h front =
-    sym (take-all i xs (omega arith)) ∙ front ∙ take-all i (floors w cs) (omega (arith, length-floors w cs))
-
 topped-near : (n : ℕ) (xs : List ℕ) (k : ℕ) → (getD xs k 0 ≤ getD (topped n xs) k 0) × (getD (topped n xs) k 0 ≤ getD xs k 0 + 1)
 topped-near zero xs k = (omega arith, omega arith)
 topped-near (suc n) [] k = (omega arith, omega arith)

@@ -6,10 +6,11 @@ use Prim.Native.Nat.{ℕ, _+_, _<_, _≤_}
 use native.Mathlib.Omega.{arith}
 use lib.ListN.{length, drop, getD}
 use Rattle.std.specs.shelf.Lists.{sum}
-use Rattle.std.proofs.shelf.Lists.{at-drop-more, at-drop-all, map-id}
+use Rattle.std.proofs.shelf.Lists.{at-drop-all, map-id}
 use Rattle.std.proofs.shelf.Sums.{sumBy-cons}
 use Rattle.std.proofs.shelf.Tests.{cond-true, cond-false}
 use Rattle.tables.specs.Carried.{carriedIf}
+use Rattle.tables.proofs.Steps.{at-row}
 
 pub sum-cons : (x : ℕ) (xs : List ℕ) → sum (x ∷ xs) ≡ x + sum xs
 sum-cons x xs = sumBy-cons (λ y. y) x xs
@@ -18,9 +19,7 @@ module _ {T : Type 0} (passes : T → Bool) (carried : T → ℕ) where
   -- the row at i, read as x, passes or does not
   module _ (rows : List T) (i : ℕ) (x : T) (within : i < length rows) (read : x ≡ getD rows i x) where
     carried-at : carriedIf passes carried (drop i rows) ≡ cond (passes x) (carried x ∷ carriedIf passes carried (drop (i + 1) rows)) (carriedIf passes carried (drop (i + 1) rows))
-    carried-at =
-        at-drop-more (carriedIf passes carried) rows i x within
-        ∙ ap (λ y. cond (passes y) (carried y ∷ carriedIf passes carried (drop (i + 1) rows)) (carriedIf passes carried (drop (i + 1) rows))) (sym read)
+    carried-at = at-row (carriedIf passes carried) rows i x within read
 
     pub carried-yes : passes x ≡ true → carriedIf passes carried (drop i rows) ≡ carried x ∷ carriedIf passes carried (drop (i + 1) rows)
     carried-yes e = carried-at ∙ cond-true _ _ _ e

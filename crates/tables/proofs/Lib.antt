@@ -1,1 +1,4 @@
+pub mod Steps
 pub mod Carrying
+pub mod Finding
+pub mod Writing

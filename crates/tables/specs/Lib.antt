@@ -1,2 +1,4 @@
 pub mod Listed
 pub mod Carried
+pub mod Keys
+pub mod Filing

@@ -4,8 +4,9 @@ use lib.ListN.{getD}
 use mir.Syntax.{w64}
 use mir.Val.{toZ, ofZ}
 use Rattle.std.proofs.shelf.Elements.{all-getD}
-use Rattle.division.specs.Signed.{signedParts}
-use Rattle.division.proofs.Signs.{back, signs-more, signs-all}
+use Rattle.tables.proofs.Writing.{written-more, written-all}
+use Rattle.division.specs.Signed.{withSign, signedParts}
+use Rattle.division.proofs.Signs.{back}
 use Rattle.division.proofs.signed.sign_parts.Needs as need
 
 pub with-sign-requires : need.with-sign-requires
@@ -13,10 +14,10 @@ with-sign-requires c κs = all-getD _ (c .args .parts .now) (c .loop-i .i) 0 (om
 
 pub loop-i-again : need.loop-i-again
 loop-i-again c =
-    signs-more (toZ w64 (ofZ w64 (c .args .whole))) (c .args .parts .now) (c .loop-i .into) (c .loop-i .i) _ (omega arith) (omega arith)
+    written-more (withSign (toZ w64 (ofZ w64 (c .args .whole)))) (c .args .parts .now) (c .loop-i .into) (c .loop-i .i) 0 _ (omega arith) (omega arith)
     (back (c .with-sign .result) (record { sfits = c .with-sign .ok }) ∙ c .with-sign .ensures) (c .loop-i .inv)
 
 pub returns : need.returns
 returns c =
-    signs-all (toZ w64 (ofZ w64 (c .args .whole))) (c .args .parts .now) (c .loop-i .into) (c .loop-i .i) (omega arith) (omega arith) (c .loop-i .inv)
+    written-all (withSign (toZ w64 (ofZ w64 (c .args .whole)))) (c .args .parts .now) (c .loop-i .into) (c .loop-i .i) (omega arith) (omega arith) (c .loop-i .inv)
     ∙ ap (λ z. signedParts z (c .args .parts .now)) (back (c .args .whole) (c .fits .whole))

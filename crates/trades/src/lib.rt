@@ -1,0 +1,2 @@
+// Corrected trades: the figure of every line, and what each contract sold and bought.
+pub mod lines;
