@@ -2,3 +2,4 @@ pub mod Steps
 pub mod Carrying
 pub mod Finding
 pub mod Writing
+pub mod Apartness

@@ -2,3 +2,4 @@ pub mod Listed
 pub mod Carried
 pub mod Keys
 pub mod Filing
+pub mod Apart

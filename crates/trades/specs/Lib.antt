@@ -1,1 +1,2 @@
 pub mod Trades
+pub mod Laws
