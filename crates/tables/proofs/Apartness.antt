@@ -27,6 +27,7 @@ module _ {T : Type 0} where
     where
       p : (not (has (same x) xs) ≡ true) × (apart same xs ≡ true)
       p = and-parts _ _ e
+
       go : (b : Bool) → t x ≡ b → countIf t xs ≤ 1 → cond b 1 0 + countIf t xs ≤ 1
       go true q ih = let z = count-none t (same x) xs (not-true _ (p .0)) (λ y r. w x y q r) in omega arith
       go false q ih = omega arith

@@ -3,3 +3,4 @@ pub mod Carrying
 pub mod Finding
 pub mod Writing
 pub mod Apartness
+pub mod Gathering

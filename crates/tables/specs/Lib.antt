@@ -3,3 +3,4 @@ pub mod Carried
 pub mod Keys
 pub mod Filing
 pub mod Apart
+pub mod Figures

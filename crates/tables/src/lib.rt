@@ -13,6 +13,7 @@ pub struct Table<T, const N: usize> {
 }
 
 pub mod bounds;
+pub mod figures;
 pub mod filing;
 pub mod keys;
 mod rows;

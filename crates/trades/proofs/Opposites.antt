@@ -97,6 +97,7 @@ opposites-agree ls w = all-weaker (Sought ls) (λ l. All (λ m. opposite l m ≡
   where
     sought : All (Sought ls) ls
     sought = all-any (λ l m. opposite l m ≡ true → firstOf (opposite l) ls ≡ Some m) ls (λ l. found-is (opposite l) ls (opposite-once ls w l))
+
     pair : (l m : Line) → Sought ls l → Sought ls m → opposite l m ≡ true → corrected ls l ≡ corrected ls m
     pair l m sl sm o =
         let back : opposite m l ≡ true = opposite-back l m o in
@@ -104,6 +105,7 @@ opposites-agree ls w = all-weaker (Sought ls) (λ l. All (λ m. opposite l m ≡
         let b : corrected ls m ≡ min (m .planned) (l .planned) = by-opposite ls m l back (sl m back) in
         let c : min (l .planned) (m .planned) ≡ min (m .planned) (l .planned) = omega arith in
         a ∙ c ∙ sym b
+
     outer : (l : Line) → Sought ls l → All (λ m. opposite l m ≡ true → corrected ls l ≡ corrected ls m) ls
     outer l sl = all-weaker (Sought ls) (λ m. opposite l m ≡ true → corrected ls l ≡ corrected ls m) (λ m sm. pair l m sl sm) ls sought
 

@@ -1,12 +1,13 @@
 -- Corrected trades: the figure of each line, and what a contract sold and bought.
 use mathlib.Core.List.{List, [], _∷_}
-use mathlib.Core.Bool.{Bool, true, false, not, _&&_, _||_}
-use mathlib.Core.Path.{_≡_}
+use mathlib.Core.Bool.{Bool, true, false, not, _&&_}
 use Prim.Native.Nat.{ℕ, min}
 use lib.Dec.{eqb}
 use Rattle.std.specs.declared.option.Option.{Option}
 use Rattle.std.specs.declared.option.Option.the-variants.{Some, None}
-use Rattle.tables.specs.Keys.{firstOf}
+use Rattle.std.specs.shelf.Lists.{sum}
+use Rattle.tables.specs.Keys.{firstOf, countIf}
+use Rattle.tables.specs.Figures.{figuresIf}
 use Rattle.terms.specs.declared.codes.Direction.{Direction}
 use Rattle.terms.specs.declared.codes.Direction.the-variants.{Sale, Purchase}
 use Rattle.terms.specs.declared.partner.Partner.{Partner}
@@ -43,3 +44,15 @@ correctedWith (Contract contract) lines l = min (l .planned) (plannedBy (firstOf
 
 abbrev pub corrected : List Line → Line → ℕ
 corrected lines l = correctedWith (l .partner) lines l
+
+-- The line is a trade of this contract in this direction.
+abbrev pub tradesOf : Direction → ℕ → Line → Bool
+tradesOf direction contract l = eqb (l .contract) contract && not (turned direction (l .direction))
+
+-- What the contract's lines of one direction come to, by the figures that stand beside the lines.
+abbrev pub traded : Direction → ℕ → List Line → List ℕ → ℕ
+traded direction contract lines figures = sum (figuresIf (tradesOf direction contract) lines figures)
+
+-- How many lines the contract has.
+abbrev pub linesOf : ℕ → List Line → ℕ
+linesOf contract lines = countIf (λ l. eqb (l .contract) contract) lines

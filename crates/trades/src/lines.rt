@@ -10,7 +10,7 @@ use terms::partner::Partner;
 use terms::records::Line;
 
 // Whether one direction is a sale and the other a purchase.
-fn are_turned(one: Direction, other: Direction) -> bool
+pub(crate) fn are_turned(one: Direction, other: Direction) -> bool
     ensures { λ r. ⌜ r ≡ turned one other ⌝ }
 {
     match (one, other) {
@@ -41,7 +41,9 @@ impl Keyed<OppositeOf> for Line as LineByOpposite {
 
     fn is(&self, key: OppositeOf) -> bool {
         let line = key.line;
-        is_contract(line.partner, self.contract) & is_contract(self.partner, line.contract) & are_turned(line.direction, self.direction)
+        is_contract(line.partner, self.contract)
+            & is_contract(self.partner, line.contract)
+            & are_turned(line.direction, self.direction)
     }
 }
 

@@ -26,7 +26,7 @@ loop-i-again c =
     let a = admits (c .args .whole) cs (length (c .args .into .now)) (c .pre .admitted) in
     let i = c .loop-i .i in
     written-more (roundedDown (c .args .whole) (sum cs) (length cs)) cs (c .loop-i .into) i 0 (c .rounded-down .result) (omega arith) (omega arith)
-        (c .rounded-down .ensures ∙ ap (λ t. roundedDown (c .args .whole) t (length cs) (getD cs i 0)) (c .pre .total)) (c .loop-i .inv)
+    (c .rounded-down .ensures ∙ ap (λ t. roundedDown (c .args .whole) t (length cs) (getD cs i 0)) (c .pre .total)) (c .loop-i .inv)
 
 pub returns : need.returns
 returns c =

@@ -1,4 +1,4 @@
-use mathlib.Core.Path.{_≡_, sym}
+use mathlib.Core.Path.{sym}
 use native.Mathlib.Omega.{arith}
 use Rattle.tables.proofs.Finding.{First, found, absent}
 use Rattle.tables.proofs.keys.find_row.Given as given
