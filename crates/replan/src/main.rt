@@ -3,6 +3,7 @@ ghost use mathlib.Core.Path.{_≡_};
 ghost use Prim.Native.Nat.{_≤_};
 ghost use lib.ListN.{length};
 ghost use Rattle.planning.specs.Plans.{Limits};
+ghost use Rattle.terms.specs.Plans.{planOf};
 use division::pro_rata::ProRata;
 use division::pro_rata::ProRataRule;
 use planning::plan::correct_plan;
@@ -21,7 +22,8 @@ use terms::text::BalanceText;
 const CONTRACT: u32 = 11;
 
 fn group(number: u32) -> Group
-    ensures { λ r. ⌜ r .number ≡ number ⌝ }
+    ensures number { λ r. ⌜ r .number ≡ number ⌝ }
+    ensures plan { λ r. ⌜ planOf r ≡ 0 ⌝ }
 {
     Group {
         number,

@@ -33,7 +33,7 @@ module _ {H M : Type 0} (owned numbered : H → ℕ) (belongs carried : M → �
 
   -- what the heads of owner o claim together
   abbrev claimed : ℕ → List M → List H → ℕ
-  claimed o ms hs = sum (claimsOf owned (claimOf numbered belongs carried ms) o hs)
+  claimed o ms hs = sum (claimsOf owned (λ h. told ms (numbered h)) o hs)
 
   -- what one member adds to that
   abbrev adds : ℕ → M → List H → ℕ
@@ -51,8 +51,8 @@ module _ {H M : Type 0} (owned numbered : H → ℕ) (belongs carried : M → �
   claimed-none o [] = refl
   claimed-none o (h ∷ hs) = go (eqb (owned h) o) (claimed-none o hs)
     where
-      go : (b : Bool) → claimed o [] hs ≡ 0 → sum (cond b (0 ∷ claimsOf owned (claimOf numbered belongs carried []) o hs) (claimsOf owned (claimOf numbered belongs carried []) o hs)) ≡ 0
-      go true e = sum-cons 0 (claimsOf owned (claimOf numbered belongs carried []) o hs) ∙ omega (arith, e)
+      go : (b : Bool) → claimed o [] hs ≡ 0 → sum (cond b (0 ∷ claimsOf owned (λ h. told [] (numbered h)) o hs) (claimsOf owned (λ h. told [] (numbered h)) o hs)) ≡ 0
+      go true e = sum-cons 0 (claimsOf owned (λ h. told [] (numbered h)) o hs) ∙ omega (arith, e)
       go false e = e
 
   claimed-cons : (o : ℕ) (m : M) (ms : List M) (hs : List H) → claimed o (m ∷ ms) hs ≡ adds o m hs + claimed o ms hs
@@ -60,12 +60,12 @@ module _ {H M : Type 0} (owned numbered : H → ℕ) (belongs carried : M → �
   claimed-cons o m ms (h ∷ hs) = go (eqb (owned h) o) (claimed-cons o m ms hs)
     where
       go : (b : Bool) → claimed o (m ∷ ms) hs ≡ adds o m hs + claimed o ms hs →
-          sum (cond b (told (m ∷ ms) (numbered h) ∷ claimsOf owned (claimOf numbered belongs carried (m ∷ ms)) o hs) (claimsOf owned (claimOf numbered belongs carried (m ∷ ms)) o hs))
+          sum (cond b (told (m ∷ ms) (numbered h) ∷ claimsOf owned (λ h. told (m ∷ ms) (numbered h)) o hs) (claimsOf owned (λ h. told (m ∷ ms) (numbered h)) o hs))
           ≡ (cond b (cond (eqb (belongs m) (numbered h)) (carried m) 0) 0 + adds o m hs)
-          + sum (cond b (told ms (numbered h) ∷ claimsOf owned (claimOf numbered belongs carried ms) o hs) (claimsOf owned (claimOf numbered belongs carried ms) o hs))
+          + sum (cond b (told ms (numbered h) ∷ claimsOf owned (λ h. told ms (numbered h)) o hs) (claimsOf owned (λ h. told ms (numbered h)) o hs))
       go true e =
-          let a = sum-cons (told (m ∷ ms) (numbered h)) (claimsOf owned (claimOf numbered belongs carried (m ∷ ms)) o hs) in
-          let b = sum-cons (told ms (numbered h)) (claimsOf owned (claimOf numbered belongs carried ms) o hs) in
+          let a = sum-cons (told (m ∷ ms) (numbered h)) (claimsOf owned (λ h. told (m ∷ ms) (numbered h)) o hs) in
+          let b = sum-cons (told ms (numbered h)) (claimsOf owned (λ h. told ms (numbered h)) o hs) in
           let p = told-cons m ms (numbered h) in
           omega (arith, a, b, p, e)
       go false e = omega (arith, e)
@@ -186,16 +186,16 @@ module _ {H M : Type 0} (rule : ℕ → List ℕ → List ℕ) (keeps : Keeps ru
       go false t = refl
 
 -- What the two levels do, by two rules that keep their terms.
-module _ {H M : Type 0} (first second : ℕ → List ℕ → List ℕ) (keeps1 : Keeps first) (keeps2 : Keeps second) (owned numbered : H → ℕ) (belongs carried : M → ℕ) (o : ℕ) (w : ℤ)
+module _ {H M : Type 0} (first second : ℕ → List ℕ → List ℕ) (keeps1 : Keeps first) (keeps2 : Keeps second) (claimed : H → ℕ → ℕ) (owned numbered : H → ℕ) (belongs carried : M → ℕ) (o : ℕ) (w : ℤ)
     (heads : List H) (members : List M) (old-heads new-heads old-members new-members : List ℤ) where
   pub shared-on-levels : Apart numbered heads → length old-heads ≡ length heads → length old-members ≡ length members →
-      new-heads ≡ headFigures first owned numbered belongs carried o w members heads old-heads →
+      new-heads ≡ headFigures first claimed owned numbered belongs carried o w members heads old-heads →
       new-members ≡ memberFigures second owned numbered belongs carried o members heads new-heads old-members →
-      SharedOnLevels first second owned numbered belongs carried o w heads members old-heads new-heads old-members new-members
+      SharedOnLevels first second claimed owned numbered belongs carried o w heads members old-heads new-heads old-members new-members
   shared-on-levels apart lh lm eh em =
-      let ln : length new-heads ≡ length heads = ap length eh ∙ length-shared first owned (claimOf numbered belongs carried members) o w heads old-heads ∙ lh in
+      let ln : length new-heads ≡ length heads = ap length eh ∙ length-shared first owned (claimOf claimed numbered belongs carried members) o w heads old-heads ∙ lh in
       record {
-        heads-shared = shared-out first keeps1 owned (claimOf numbered belongs carried members) o w heads old-heads new-heads lh eh;
+        heads-shared = shared-out first keeps1 owned (claimOf claimed numbered belongs carried members) o w heads old-heads new-heads lh eh;
         parts = λ k h lt e m. ap (figuresOf belongs (numbered h) members) em ∙ after-parts second keeps2 owned numbered belongs carried o members heads new-heads old-members lm ln apart k h lt e m;
         others = λ i b li ei a. ap (λ ys. getD ys i (pos 0)) em ∙ after-keeps second keeps2 owned numbered belongs carried o members heads new-heads old-members i b li ei a;
         adds = λ k h lt e m some. ap (λ ys. addedUp (figuresOf belongs (numbered h) members ys)) em ∙ after-adds second keeps2 owned numbered belongs carried o members heads new-heads old-members lm ln apart k h lt e m some;

@@ -19,11 +19,17 @@ pub trait Carries: Owned {
 }
 
 // A row with a number, under which its members are listed: a member's owner is the number of its head.
+// What the head claims in a division may depend on what its members carry together.
 pub trait Head: Owned {
     ghost numbered: { Self → ℕ };
 
+    ghost claimed: { Self → ℕ → ℕ };
+
     fn number(&self) -> u32
         ensures { λ r. ⌜ r ≡ numbered (now (self .entry)) ⌝ };
+
+    fn claim(&self, together: u64) -> u64
+        ensures { λ r. ⌜ r ≡ claimed (now (self .entry)) together ⌝ };
 }
 
 // A figure by itself carries itself, and belongs to nobody.

@@ -1,5 +1,5 @@
 // Records of a book, as they are filed, and what they are to totals and divisions.
-ghost use Rattle.terms.specs.Plans.{planOf};
+ghost use Rattle.terms.specs.Plans.{claimIn};
 use crate::codes::Direction;
 use crate::codes::Kind;
 use crate::codes::Method;
@@ -92,7 +92,8 @@ pub impl Carries for Share as ShareCarries {
     }
 }
 
-// A group belongs to its contract, and its shares are listed under its number.
+// A group belongs to its contract, and its shares are listed under its number. A generation group claims what its shares planned together,
+// a curtailment group its own plan.
 pub impl Owned for Group as GroupOwned {
     ghost owned = { λ g. g .contract };
 
@@ -104,18 +105,15 @@ pub impl Owned for Group as GroupOwned {
 pub impl Head for Group as GroupHead {
     ghost numbered = { λ g. g .number };
 
+    ghost claimed = { λ g together. claimIn (g .sort) together };
+
     fn number(&self) -> u32 {
         self.number
     }
-}
 
-// A curtailment group carries its plan, a generation group nothing of its own.
-pub impl Carries for Group as GroupCarries {
-    ghost carried = { λ g. planOf g };
-
-    fn kwh(&self) -> u64 {
+    fn claim(&self, together: u64) -> u64 {
         match self.sort {
-            GroupSort::Generation => 0,
+            GroupSort::Generation => together,
             GroupSort::Curtailment(curtailment) => u64::from(curtailment.plan),
         }
     }

@@ -3,7 +3,7 @@ use Prim.Native.Nat.{_≤_}
 use native.Mathlib.Omega.{arith}
 use lib.IntN.{ℤ, natAbs}
 use Rattle.division.proofs.Signs.{back}
-use Rattle.planning.proofs.Deemed.{apart-small, shares-light}
+use Rattle.planning.proofs.Deemed.{apart-small, shares-light, claims-light}
 use Rattle.planning.proofs.plan.correct_plan.Needs as need
 
 pub share-out-levels-requires : need.share-out-levels-requires
@@ -14,6 +14,7 @@ share-out-levels-requires g c κs =
     record {
       few = (omega (arith, l .fewGroups), l .fewShares);
       apart = l .apart;
+      claims = claims-light (c .args .contract) (c .args .groups .now) (c .args .shares .now) l;
       light = omega (arith, shares-light (c .args .shares .now) (l .fewShares) (l .planned));
       heads = c .pre .groups;
       members = c .pre .shares;

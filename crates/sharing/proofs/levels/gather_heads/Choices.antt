@@ -9,5 +9,5 @@ use Rattle.sharing.proofs.levels.gather_heads.Given as given
 
 abbrev pub Inv-loop-head : given.InvT-loop-head
 Inv-loop-head g l =
-    let claims = claimsOf (g .H·Owned .owned) (claimOf (g .H·Head .numbered) (g .M·Owned .owned) (g .M·Carries .carried) (l .members)) (l .owner) in
+    let claims = claimsOf (g .H·Owned .owned) (claimOf (g .H·Head .claimed) (g .H·Head .numbered) (g .M·Owned .owned) (g .M·Carries .carried) (l .members)) (l .owner) in
     (length (listed (l .claims)) ≤ l .head-index) × (listed (l .claims) ++ claims (drop (l .head-index) (l .heads)) ≡ claims (l .heads))
