@@ -46,6 +46,10 @@ claims-split t c (g ∷ gs) s = go (eqb (g .contract) c) (claims-split t c gs (s
 
 pub claims-light : (c : ℕ) (gs : List Group) (ss : List Share) → Limits gs ss → sum (groupClaims c gs ss) ≤ 6144000000
 claims-light c gs ss l =
-    omega (arith, claims-split (λ (g : Group). sum (claimsOf (λ (s : Share). s .group) (λ (s : Share). s .planned) (g .number) ss)) c gs (l .plans),
+    omega (
+      arith,
+      claims-split (λ (g : Group). sum (claimsOf (λ (s : Share). s .group) (λ (s : Share). s .planned) (g .number) ss)) c gs (l .plans),
       claimed-within (λ (g : Group). g .contract) (λ (g : Group). g .number) (λ (s : Share). s .group) (λ (s : Share). s .planned) c ss gs (l .apart),
-      shares-light ss (l .fewShares) (l .planned), l .fewGroups)
+      shares-light ss (l .fewShares) (l .planned),
+      l .fewGroups,
+    )

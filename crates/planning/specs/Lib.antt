@@ -1,3 +1,5 @@
 pub mod Plans
 pub mod Workings
 pub mod Text
+pub mod All
+pub mod Laws

@@ -1,10 +1,12 @@
 -- The corrected plan of a generation contract.
 use mathlib.Core.List.{List}
 use Prim.Native.Nat.{ℕ, _≤_}
-use lib.IntN.{ℤ}
+use lib.IntN.{ℤ, pos, _+ℤ_}
 use lib.ListN.{length}
 use Rattle.std.specs.shelf.Lists.{All}
 use Rattle.terms.specs.declared.records.Group.{Group}
+use Rattle.terms.specs.declared.records.GroupSort.{GroupSort}
+use Rattle.terms.specs.declared.records.GroupSort.the-variants.{Generation, Curtailment}
 use Rattle.terms.specs.declared.records.Share.{Share}
 use Rattle.terms.specs.Plans.{planOf, claimIn}
 use Rattle.tables.specs.Carried.{claimsOf}
@@ -48,3 +50,12 @@ groupsOf contract groups = claimsOf (λ (g : Group). g .contract) (λ (g : Group
 
 abbrev pub plantsOf : ℕ → List Share → List ℕ
 plantsOf group shares = claimsOf (λ (s : Share). s .group) (λ (s : Share). s .plant) group shares
+
+-- A group's plan from its part of its contract's sales less purchases: a generation group's part is its plan,
+-- a curtailment group's is added to the plan that it filed, which gives its deemed plan.
+abbrev pub planFrom : GroupSort → ℤ → ℤ
+planFrom Generation part = part
+planFrom (Curtailment c) part = part +ℤ pos (c .plan)
+
+abbrev pub groupPlan : Group → ℤ → ℤ
+groupPlan g part = planFrom (g .sort) part

@@ -2,14 +2,16 @@
 ghost use mathlib.Core.Path.{_≡_};
 ghost use Prim.Native.Nat.{_≤_};
 ghost use lib.ListN.{length};
-ghost use lib.IntN.{pos, _-ℤ_};
-ghost use Rattle.planning.specs.Plans.{Limits, PlanCorrected};
+ghost use lib.IntN.{pos, natAbs, _-ℤ_};
+ghost use Rattle.terms.specs.Plans.{planOf};
+ghost use Rattle.planning.specs.Plans.{Limits, PlanCorrected, groupPlan};
 use division::DivisionRule;
 use sharing::levels::share_out_levels;
 use terms::balance::Balance;
 use terms::records::Group;
 use terms::records::GroupHead;
 use terms::records::GroupOwned;
+use terms::records::GroupSort;
 use terms::records::Share;
 use terms::records::ShareCarries;
 use terms::records::ShareOwned;
@@ -43,4 +45,16 @@ pub fn correct_plan<A: DivisionRule, B: DivisionRule>(
         group_plans,
         share_plans,
     );
+}
+
+// A group's plan from its part: a generation group's part is its plan, a curtailment group's is added to the plan that it filed.
+// Callers are proved to hand over a part of a division and a plan inside the limits of a book.
+pub fn group_plan(group: &Group, part: i64) -> i64
+    requires { ⌜ (natAbs part ≤ 128000000) × (planOf (now group) ≤ 2000000) ⌝ }
+    ensures { λ r. ⌜ r ≡ groupPlan (now (group .entry)) part ⌝ }
+{
+    match group.sort {
+        GroupSort::Generation => part,
+        GroupSort::Curtailment(curtailment) => part + i64::from(curtailment.plan),
+    }
 }

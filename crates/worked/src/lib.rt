@@ -4,5 +4,4 @@ ghost use Rattle.worked.specs.Cases.{TwelveCases};
 // The twelve marked cases hold, as one list.
 pub fn twelve_cases_hold()
     ensures { λ _. ⌜ TwelveCases ⌝ }
-{
-}
+{}
