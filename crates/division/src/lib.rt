@@ -1,4 +1,6 @@
 // Division rules: how a whole number of kWh is divided among claims.
+#![tactic(auto)]
+
 ghost use Rattle.std.specs.Prelude.{◌≡◌, ℕ, ◌≤◌, true, false, List, length, Ok, Err, sum};
 ghost use Rattle.terms.specs.declared.refusal.Refusal.TheVariants.{NotDivisible};
 ghost use Rattle.division.specs.Limits.{divisible, Divided};

@@ -1,4 +1,6 @@
 // Meters: what a source of readings answers, two kinds of table that are such sources, and the demand of an owner by its meters.
+#![tactic(auto)]
+
 pub mod demand;
 pub mod half_hour;
 pub mod lookup;

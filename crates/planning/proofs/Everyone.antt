@@ -7,12 +7,11 @@ use Rattle.terms.specs.declared.records.Contract.{Contract}
 use Rattle.terms.specs.declared.records.Group.{Group}
 use Rattle.terms.specs.declared.records.Line.{Line}
 use Rattle.terms.specs.declared.records.Share.{Share}
-use Rattle.trades.specs.Trades.{own_of}
 use Rattle.division.specs.Signed.{signed_parts}
 use Rattle.sharing.specs.Levels.{Apart}
 use Rattle.sharing.proofs.Placing.{figures-same}
 use Rattle.planning.specs.Plans.{PlanCorrected, group_claims, share_claims, plans_of_groups, plans_of_shares}
-use Rattle.planning.specs.All.{PlansCorrected}
+use Rattle.planning.specs.All.{own_of, PlansCorrected}
 
 -- two rows read at one place are one row
 pub one-read : {T : Type 0} (xs : List T) (n : ℕ) (x y : T) → n < length xs → x ≡ get_or xs n x → y ≡ get_or xs n y → x ≡ y

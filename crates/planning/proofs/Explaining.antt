@@ -12,8 +12,7 @@ use Rattle.division.specs.Rules.{rounded_down, floors, topped, left_over, pro_ra
 use Rattle.division.specs.Signed.{with_sign, signed_parts}
 use Rattle.division.specs.Proportions.{length-floors, length_pro_rata, sum_pro_rata}
 use Rattle.division.proofs.Signs.{nat_abs-sign}
-use Rattle.tables.specs.Figures.{added_up}
-use Rattle.sharing.specs.Owners.{count_of, figures_of}
+use Rattle.sharing.specs.Owners.{count_of, figures_of, added_up}
 use Rattle.sharing.proofs.Placing.{signed_sum, own_sign}
 use Rattle.planning.specs.declared.working.Working.{Working}
 use Rattle.planning.specs.Workings.{working_of, workings, names_of, Explains}

@@ -3,4 +3,3 @@ pub mod Lines
 pub mod Explaining
 pub mod Everyone
 pub mod Sums
-pub mod Within

@@ -3,10 +3,10 @@ use Rattle.std.proofs.Common.{◌≡◌, get_or, pos, ap, ◌∙◌}
 use Rattle.terms.specs.declared.records.Group.{Group}
 use Rattle.terms.specs.declared.records.Share.{Share}
 use Rattle.terms.specs.Plans.{claim_in}
-use Rattle.tables.specs.Figures.{added_up}
-use Rattle.trades.specs.Trades.{own_of}
+use Rattle.sharing.specs.Owners.{added_up}
 use Rattle.sharing.specs.Levels.{claim_of}
 use Rattle.sharing.proofs.Placing.{parts_add}
+use Rattle.planning.specs.All.{own_of}
 use Rattle.planning.specs.Laws.{GroupsAddUp, SharesAddUp}
 
 pub groups-add_up : GroupsAddUp

@@ -1,22 +1,25 @@
 -- The corrected plans of every contract.
-use Rattle.std.specs.Prelude.{◌≡◌, ℕ, ◌<◌, ◌≤◌, List, length, ℤ, pos, ◌≢◌, slice_index_or, unsigned_abs}
+use Rattle.std.specs.Prelude.{◌≡◌, ℕ, ◌<◌, ◌≤◌, List, length, ℤ, pos, ◌-ℤ◌, ◌≢◌, slice_index_or, unsigned_abs}
 use Rattle.std.specs.List.{AllByRecursion as All}
+use Rattle.terms.specs.declared.codes.Direction.TheVariants.{Sale, Purchase}
 use Rattle.terms.specs.declared.records.Contract.{Contract}
 use Rattle.terms.specs.declared.records.Group.{Group}
 use Rattle.terms.specs.declared.records.Line.{Line}
 use Rattle.terms.specs.declared.records.Share.{Share}
-use Rattle.trades.specs.Trades.{own_of, lines_of}
+use Rattle.trades.specs.Trades.{traded, lines_of}
 use Rattle.division.specs.Signed.{signed_parts}
-use Rattle.tables.specs.Figures.{added_up}
-use Rattle.sharing.specs.Owners.{count_of}
+use Rattle.sharing.specs.Owners.{count_of, added_up}
 use Rattle.planning.specs.Plans.{group_claims, share_claims, plans_of_groups, plans_of_shares}
 
--- The limits that the lines of a book keep: at most 512 lines, a figure of at most 2,000,000 kWh for each, and at most 64 lines a contract.
+-- The limits that the lines of a book keep: a figure of at most 2,000,000 kWh for each line, and at most 64 lines a contract.
 pub record Trading (lines : List Line) (figures : List ℕ) : Type 0 where
   pub room : length figures ≡ length lines
-  pub few : length lines ≤ 512
   pub small : All (λ f. f ≤ 2000000) figures
   pub allowed : (contract : ℕ) → lines_of contract lines ≤ 64
+
+-- A contract's corrected sales less purchases.
+abbrev pub own_of : ℕ → List Line → List ℕ → ℤ
+own_of contract lines figures = pos (traded Sale contract lines figures) -ℤ pos (traded Purchase contract lines figures)
 
 -- What correction leaves at groups and shares, contract by contract.
 pub record PlansCorrected (first second : ℕ → List ℕ → List ℕ) (contracts : List Contract) (lines : List Line) (figures : List ℕ) (groups : List Group) (shares : List Share)

@@ -3,7 +3,7 @@ use Rattle.std.specs.Prelude.{◌≡◌, ℕ, ◌<◌, ◌≤◌, Bool, false, c
 use Rattle.division.specs.Rules.{rounded_down, floors, left_over, pro_rata}
 use Rattle.division.specs.Signed.{signed_parts}
 use Rattle.tables.specs.Carried.{claims_of}
-use Rattle.tables.specs.Figures.{added_up}
+use Rattle.sharing.specs.Owners.{added_up}
 use Rattle.planning.specs.declared.working.Working.{Working}
 
 -- The working of one part of a whole, where so many claims come to this total.

@@ -1,9 +1,8 @@
 // The corrected plans of every contract of a half hour.
 ghost use Rattle.std.specs.Prelude.{◌≡◌, length};
-ghost use Rattle.trades.specs.Trades.{own_of};
 ghost use Rattle.sharing.specs.Levels.{Apart};
 ghost use Rattle.planning.specs.Plans.{Limits, PlanCorrected};
-ghost use Rattle.planning.specs.All.{Trading, PlansCorrected};
+ghost use Rattle.planning.specs.All.{Trading, own_of, PlansCorrected};
 
 use crate::plan::correct_plan;
 use division::DivisionRule;
@@ -16,7 +15,7 @@ fn correct_contract<A: DivisionRule, B: DivisionRule>(
     second: &B,
     contract: u32,
     lines: &[Line],
-    figures: &[u64],
+    figures: &[u32],
     groups: &[Group],
     shares: &[Share],
     group_parts: &mut [i64],
@@ -49,7 +48,7 @@ pub fn correct_plans<A: DivisionRule, B: DivisionRule>(
     second: &B,
     contracts: &[Contract],
     lines: &[Line],
-    figures: &[u64],
+    figures: &[u32],
     groups: &[Group],
     shares: &[Share],
     group_parts: &mut [i64],

@@ -1,4 +1,6 @@
 // The corrected plan of one generation contract, and its working.
+#![tactic(auto)]
+
 pub mod all;
 mod laws;
 pub mod plan;

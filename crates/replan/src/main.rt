@@ -1,4 +1,6 @@
 // Corrects one producer's generation plan from its corrected sales and purchases, and prints the working.
+#![tactic(auto)]
+
 ghost use Rattle.std.specs.Prelude.{◌≡◌, ◌≤◌, length};
 ghost use Rattle.planning.specs.Plans.{Limits};
 ghost use Rattle.terms.specs.Plans.{plan_of};

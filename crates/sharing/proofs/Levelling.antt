@@ -7,8 +7,7 @@ use Rattle.std.proofs.lemmas.Bool.{eq-eqb, ne_eqb, eqb-true, cond-true, cond-fal
 use Rattle.tables.specs.Carried.{claims_of}
 use Rattle.tables.proofs.Carrying.{sum-cons}
 use Rattle.division.specs.Terms.{Keeps}
-use Rattle.tables.specs.Figures.{added_up}
-use Rattle.sharing.specs.Owners.{count_of, figures_of, parts_for, shared}
+use Rattle.sharing.specs.Owners.{count_of, figures_of, added_up, parts_for, shared}
 use Rattle.sharing.specs.Levels.{Apart, claim_of, figures_of_heads, figures_of_members, SharedOnLevels}
 use Rattle.sharing.proofs.Placing.{length-shared, shared_out, shared-parts, parts_add, shared_keeps, figures-others}
 

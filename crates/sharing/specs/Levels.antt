@@ -3,8 +3,7 @@
 use Rattle.std.specs.Prelude.{◌≡◌, ℕ, ◌<◌, ◌≤◌, cond, List, [], ◌∷◌, length, ℤ, pos, sum, ◌==◌, ◌≢◌, slice_index_or, unsigned_abs}
 use Rattle.std.specs.List.{AllByRecursion as All}
 use Rattle.tables.specs.Carried.{claims_of}
-use Rattle.tables.specs.Figures.{added_up}
-use Rattle.sharing.specs.Owners.{count_of, figures_of, parts_for, shared, SharedOut}
+use Rattle.sharing.specs.Owners.{count_of, figures_of, added_up, parts_for, shared, SharedOut}
 
 -- No two heads have one number.
 abbrev pub Apart : {H : Type 0} → (H → ℕ) → List H → Type 0

@@ -4,4 +4,3 @@ pub mod Finding
 pub mod Writing
 pub mod Apartness
 pub mod Gathering
-pub mod Adding

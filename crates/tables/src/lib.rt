@@ -1,4 +1,6 @@
 // Tables of a fixed size, and what the rows of one owner carry together.
+#![tactic(auto)]
+
 ghost use Rattle.std.specs.Prelude.{◌≡◌, ◌≤◌, length};
 
 // At most N rows, in the order in which they came; the first `len` of them are listed.

@@ -3,4 +3,3 @@ pub mod Text
 pub mod Codes
 pub mod Partners
 pub mod Plans
-pub mod Owners

@@ -29,13 +29,6 @@ impl Balance {
         self.own
     }
 
-    // Purchases less sales: the deemed demand of a retail contract.
-    pub fn deemed_demand(&self) -> i64
-        ensures { result ≡ pos self.now.bought -ℤ pos self.now.sold }
-    {
-        i64::from(self.bought) - i64::from(self.sold)
-    }
-
     pub fn bought(&self) -> u32
         ensures { result ≡ self.now.bought }
     {

@@ -1,4 +1,6 @@
 // The terms of the trade that every crate above speaks in: records, codes, the balance of a contract, and refusals.
+#![tactic(auto)]
+
 pub mod balance;
 pub mod codes;
 pub mod partner;

@@ -1,3 +1,2 @@
 pub mod Opposites
-pub mod Cancelling
 pub mod Sums

@@ -5,11 +5,16 @@ ghost use Rattle.terms.specs.declared.codes.Direction.TheVariants.{Sale, Purchas
 ghost use Rattle.trades.specs.Trades.{trades_of, traded, lines_of};
 
 use crate::lines::are_turned;
-use tables::figures::total_fitting;
+use tables::Table;
+use tables::figures::gather_fitting;
 use tables::keys::Keyed;
+use tables::totals::{Whose, total};
 use terms::balance::Balance;
 use terms::codes::Direction;
 use terms::records::Line;
+
+// How many lines a contract has at most.
+pub const MOST_LINES: usize = 64;
 
 // The key of a contract's lines of one direction.
 #[derive(Clone, Copy)]
@@ -27,26 +32,28 @@ impl Keyed<TradesOf> for Line {
 }
 
 // What the contract's lines of one direction come to.
-fn total_traded(lines: &[Line], figures: &[u64], direction: Direction, contract: u32) -> u32
+fn total_traded(lines: &[Line], figures: &[u32], direction: Direction, contract: u32) -> u32
     requires room { length figures.now ≡ length lines.now }
-    requires few { length lines.now ≤ 512 }
     requires allowed { lines_of contract lines.now ≤ 64 }
     requires small { All (λ f. f ≤ 2000000) figures.now }
     ensures value { result ≡ traded direction contract lines.now figures.now }
     ensures within { result ≤ 128000000 }
 {
-    let key = TradesOf {
-        direction,
-        contract,
-    };
-    total_fitting(lines, key, figures) as u32
+    let gathered: Table<u64, MOST_LINES> = gather_fitting(
+        lines,
+        TradesOf {
+            direction,
+            contract,
+        },
+        figures,
+    );
+    total(gathered.as_slice(), Whose::Everyone) as u32
 }
 
 // The contract's corrected sales and purchases, and what they leave to its own generation.
-// Callers are proved to have a figure of at most 2,000,000 for each line, at most 512 lines, and at most 64 of the contract.
-pub fn balance_of(lines: &[Line], figures: &[u64], contract: u32) -> Balance
+// Callers are proved to have a figure of at most 2,000,000 for each line, and at most 64 lines of the contract.
+pub fn balance_of(lines: &[Line], figures: &[u32], contract: u32) -> Balance
     requires room { length figures.now ≡ length lines.now }
-    requires few { length lines.now ≤ 512 }
     requires allowed { lines_of contract lines.now ≤ 64 }
     requires small { All (λ f. f ≤ 2000000) figures.now }
     ensures sold { result.sold ≡ traded Sale contract lines.now figures.now }

@@ -1,4 +1,6 @@
 // Corrected trades: the figure of every line, and what each contract sold and bought.
+#![tactic(auto)]
+
 pub mod balances;
 mod laws;
 pub mod lines;

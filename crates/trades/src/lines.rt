@@ -63,11 +63,11 @@ pub fn corrected_figure(lines: &[Line], line: &Line) -> u32
 }
 
 // The corrected figure of every line, each at its line's place. Callers are proved to have a figure for each line.
-pub fn correct_lines(lines: &[Line], figures: &mut [u64])
+pub fn correct_lines(lines: &[Line], figures: &mut [u32])
     requires { length figures.old ≡ length lines.now }
     ensures { figures.new ≡ map (corrected lines.now) lines.now }
 {
     for i in 0..lines.len() {
-        figures[i] = u64::from(corrected_figure(lines, &lines[i]));
+        figures[i] = corrected_figure(lines, &lines[i]);
     }
 }

@@ -1,4 +1,6 @@
 // The worked cases of the rules: what the definitions give, beside what they must give.
+#![tactic(auto)]
+
 ghost use Rattle.std.specs.Prelude.{◌≡◌, length};
 ghost use Rattle.worked.specs.Cases.{given, TwelveCases};
 

@@ -1,4 +1,4 @@
-use Rattle.std.proofs.Common.{◌≡◌, ◌<◌, length, get_or, sym, refl, ap, ◌∙◌, arith}
+use Rattle.std.proofs.Common.{◌≡◌, ◌<◌, length, sym, ap, ◌∙◌, arith}
 use Rattle.std.proofs.lemmas.List.{length_push}
 use Rattle.tables.specs.Listed.{listed}
 use Rattle.tables.proofs.Finding.{count_on}
@@ -26,8 +26,8 @@ loop-i-preserved g c =
       | then_is w ↦
           let here = simp w.if-is.true at on in
           let pushed = ap listed w.gathered-is ∙ w.push.ensures in (
-            omega (arith, ap length pushed, length_push out (get_or xs i 0), here, c.loop-i.invariant.0),
-            gathered_yes fits rows xs i x c.loop-i-test.true room c.index-rows-i.is out _ _ c.loop-i.invariant.1 (get_or xs i 0) (sym c.is.ensures ∙ w.if-is.true) refl pushed,
+            omega (arith, ap length pushed, length_push out w.from.result, here, c.loop-i.invariant.0),
+            gathered_yes fits rows xs i x c.loop-i-test.true room c.index-rows-i.is out _ _ c.loop-i.invariant.1 w.from.result (sym c.is.ensures ∙ w.if-is.true) w.from.ensures pushed,
           )
       | else_is w ↦
           let here = simp w.if-is.false at on in

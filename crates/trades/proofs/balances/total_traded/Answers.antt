@@ -1,18 +1,21 @@
-use Rattle.std.proofs.Common.{◌≤◌, ◌∙◌, arith}
-use Rattle.trades.proofs.Sums.{traded-light}
+use Rattle.std.proofs.Common.{◌≡◌, sum, ap, ◌∙◌, arith, lit<}
+use Rattle.tables.proofs.Carrying.{carried_all}
+use Rattle.trades.proofs.Sums.{trades-few, traded-light}
 use Rattle.trades.proofs.balances.total_traded.Goals as goal
 
-pub total-fitting-requires : goal.total-fitting-requires
-total-fitting-requires c =
-    let most = traded-light c.args.direction c.args.contract c.args.lines.now c.args.figures.now c.requires.allowed c.requires.small in
-    record { room = c.requires.room; few = c.requires.few; light = omega (arith, most) }
+pub gather-fitting-gathered-requires : goal.gather-fitting-gathered-requires
+gather-fitting-gathered-requires c =
+    (lit< tt, (c.requires.room, omega (arith, trades-few c.args.direction c.args.contract c.args.lines.now, c.requires.allowed)))
+
+pub total-requires : goal.total-requires
+total-requires c =
+    omega (arith, ap sum (carried_all c.as-slice.result.now), ap sum (c.as-slice.ensures ∙ c.gather-fitting-gathered.ensures), traded-light c.args.direction c.args.contract c.args.lines.now c.args.figures.now c.requires.allowed c.requires.small)
 
 pub overflow-cast-result : goal.overflow-cast-result
 overflow-cast-result c =
-    let most = traded-light c.args.direction c.args.contract c.args.lines.now c.args.figures.now c.requires.allowed c.requires.small in
-    record { fits = omega (arith, most, c.total-fitting.ensures) }
+    record { fits = omega (arith, c.total.ensures, ap sum (carried_all c.as-slice.result.now), ap sum (c.as-slice.ensures ∙ c.gather-fitting-gathered.ensures), traded-light c.args.direction c.args.contract c.args.lines.now c.args.figures.now c.requires.allowed c.requires.small) }
 
 pub returns : goal.returns
 returns c =
-    let most = traded-light c.args.direction c.args.contract c.args.lines.now c.args.figures.now c.requires.allowed c.requires.small in
-    record { value = c.total-fitting.ensures; within = omega (arith, most, c.total-fitting.ensures) }
+    let e = c.total.ensures ∙ ap sum (carried_all c.as-slice.result.now) ∙ ap sum (c.as-slice.ensures ∙ c.gather-fitting-gathered.ensures) in
+    record { value = e; within = omega (arith, e, traded-light c.args.direction c.args.contract c.args.lines.now c.args.figures.now c.requires.allowed c.requires.small) }
