@@ -3,7 +3,7 @@ use Rattle.std.proofs.lemmas.List.{length_push}
 use Rattle.tables.specs.Listed.{listed}
 use Rattle.allotment.proofs.Claiming.{turn-some, turn-none, turns-all}
 use Rattle.allotment.proofs.claims.in_turn.Goals as goal
-use Rattle.allotment.proofs.claims.in_turn.Goals.{in-Some, in-default}
+use Rattle.allotment.proofs.claims.in_turn.Goals.{in-Some, in_default}
 
 pub loop-rank-preserved : goal.loop-rank-preserved
 loop-rank-preserved c =
@@ -16,10 +16,10 @@ loop-rank-preserved c =
             omega (arith, ap length pushed, length_push out w.in-Some.claim, c.loop-rank.invariant.0),
             turn-some claims rank c.loop-rank-test.true out _ c.loop-rank.invariant.1 w.in-Some.claim w.in-Some.ensures pushed,
           )
-      | in-default w ↦
+      | in_default w ↦
           let same = ap listed w.turns-is in (
             omega (arith, ap length same, c.loop-rank.invariant.0),
-            turn-none claims rank c.loop-rank-test.true out _ c.loop-rank.invariant.1 w.in-default.ensures same,
+            turn-none claims rank c.loop-rank-test.true out _ c.loop-rank.invariant.1 w.in_default.ensures same,
           )
     ]
 

@@ -4,8 +4,8 @@ use Rattle.division.specs.Rules.{topped}
 use Rattle.division.specs.Proportions.{topped_more, get_or-topped}
 use Rattle.division.proofs.pro_rata.top_up.Goals as goal
 
-pub overflow-add-into : goal.overflow-add-into
-overflow-add-into c =
+pub overflow_add-into : goal.overflow_add-into
+overflow_add-into c =
     let xs = c.args.into.now in
     let k = c.loop-k.k in
     let e : get_or c.loop-k.into k 0 ≡ get_or xs k 0 = ap (λ l. get_or l k 0) c.loop-k.invariant ∙ get_or-topped k xs in

@@ -12,8 +12,8 @@ total-given-requires c =
     let a = admits c.args.whole cs (length c.args.into.now) c.requires.admitted in
     omega (arith, ap sum (carried_all c.round-down.new.into), ap sum c.round-down.ensures, sum-floors_le c.args.whole cs a.some, a.small)
 
-pub overflow-sub-whole : goal.overflow-sub-whole
-overflow-sub-whole c =
+pub overflow_sub-whole : goal.overflow_sub-whole
+overflow_sub-whole c =
     let cs = c.args.claims.now in
     let a = admits c.args.whole cs (length c.args.into.now) c.requires.admitted in
     omega (arith, c.total-given.ensures, ap sum (carried_all c.round-down.new.into), ap sum c.round-down.ensures, sum-floors_le c.args.whole cs a.some)

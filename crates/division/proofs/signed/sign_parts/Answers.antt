@@ -11,7 +11,7 @@ with-sign-requires c = All-get_or _ c.args.parts.now c.loop-i.i 0 (omega arith) 
 pub loop-i-preserved : goal.loop-i-preserved
 loop-i-preserved c =
     written_more (with_sign (to_z w64 (of_z w64 c.args.whole))) c.args.parts.now c.loop-i.into c.loop-i.i 0 _ (omega arith) (omega arith)
-    (back c.with-sign.result (record { sfits = c.with-sign.type-inv }) ∙ c.with-sign.ensures) c.loop-i.invariant
+    (back c.with-sign.result (record { sfits = c.with-sign.type_inv }) ∙ c.with-sign.ensures) c.loop-i.invariant
 
 pub returns : goal.returns
 returns c =

@@ -15,5 +15,5 @@ share-out-levels-requires g c =
       light = omega (arith, shares-light c.args.shares.now l.few_shares l.planned);
       heads = c.requires.groups;
       members = c.requires.shares;
-      small = subst P (sym (back c.own.result (record { sfits = c.own.type-inv }) ∙ own)) (apart-small c.args.balance.now.sold c.args.balance.now.bought 128000000 c.requires.traded.0 c.requires.traded.1);
+      small = subst P (sym (back c.own.result (record { sfits = c.own.type_inv }) ∙ own)) (apart-small c.args.balance.now.sold c.args.balance.now.bought 128000000 c.requires.traded.0 c.requires.traded.1);
     }

@@ -15,13 +15,13 @@ total-all-requires g c = omega (arith, ap sum (carried_all c.args.claims.now), c
 
 pub bounds-claims-n : goal.bounds-claims-n
 bounds-claims-n g c =
-    let m = count_yes g.row.T-Owned.owned c.args.owner c.args.rows.now c.loop-i.i c.index-rows-i.result (omega arith) c.index-rows-i.is (sym c.owner.ensures ∙ c.if-owner.true) in
+    let m = count_yes g.T.Owned.owned c.args.owner c.args.rows.now c.loop-i.i c.index-rows-i.result (omega arith) c.index-rows-i.is (sym c.owner.ensures ∙ c.if-owner.true) in
     omega (arith, m, c.loop-i.invariant.1)
 
 pub work-out-part-requires : goal.work-out-part-requires
 work-out-part-requires g c =
     let cs = c.args.claims.now in
-    let m = count_yes g.row.T-Owned.owned c.args.owner c.args.rows.now c.loop-i.i c.index-rows-i.result (omega arith) c.index-rows-i.is (sym c.owner.ensures ∙ c.if-owner.true) in
+    let m = count_yes g.T.Owned.owned c.args.owner c.args.rows.now c.loop-i.i c.index-rows-i.result (omega arith) c.index-rows-i.is (sym c.owner.ensures ∙ c.if-owner.true) in
     let lt : c.loop-i.n < length cs = omega (arith, m, c.loop-i.invariant.1) in
     record {
       some = omega (arith, lt);
@@ -31,7 +31,7 @@ work-out-part-requires g c =
 
 pub loop-i-preserved : goal.loop-i-preserved
 loop-i-preserved g c =
-    let owned = g.row.T-Owned.owned in
+    let owned = g.T.Owned.owned in
     let known = g.T.Claimant.known in
     let rows = c.args.rows.now in
     let i = c.loop-i.i in
@@ -73,5 +73,5 @@ loop-i-preserved g c =
 pub returns : goal.returns
 returns g c =
     let cs = c.args.claims.now in
-    lines-all g.row.T-Owned.owned g.T.Claimant.known c.args.owner (working_of (to_z w64 (of_z w64 c.args.whole)) (sum cs) (length cs)) c.args.rows.now c.loop-i.i (drop c.loop-i.n cs) (drop c.loop-i.i c.args.figures.now) (listed c.loop-i.lines) _ (omega arith) c.loop-i.invariant.2
-    ∙ ap (λ (z : ℤ). workings g.row.T-Owned.owned g.T.Claimant.known c.args.owner (working_of z (sum cs) (length cs)) c.args.rows.now cs c.args.figures.now) (back c.args.whole c.ranges.whole)
+    lines-all g.T.Owned.owned g.T.Claimant.known c.args.owner (working_of (to_z w64 (of_z w64 c.args.whole)) (sum cs) (length cs)) c.args.rows.now c.loop-i.i (drop c.loop-i.n cs) (drop c.loop-i.i c.args.figures.now) (listed c.loop-i.lines) _ (omega arith) c.loop-i.invariant.2
+    ∙ ap (λ (z : ℤ). workings g.T.Owned.owned g.T.Claimant.known c.args.owner (working_of z (sum cs) (length cs)) c.args.rows.now cs c.args.figures.now) (back c.args.whole c.ranges.whole)

@@ -6,7 +6,7 @@ use Rattle.planning.proofs.working.list_lines.Given as goal
 
 abbrev pub invariant-loop-i : goal.invariant-loop-i
 invariant-loop-i g l =
-    let owned = g.row.T-Owned.owned in
+    let owned = g.T.Owned.owned in
     let f = workings owned g.T.Claimant.known l.owner (working_of l.whole (sum l.claims) (length l.claims)) in
     (length (listed l.lines) ≤ l.i)
     × (l.n + count_of owned l.owner (drop l.i l.rows) ≡ length l.claims)

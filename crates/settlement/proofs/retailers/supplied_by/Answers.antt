@@ -7,8 +7,8 @@ use Rattle.settlement.proofs.retailers.supplied_by.Goals as goal
 pub total-requires : goal.total-requires
 total-requires g c = omega (arith, supplied-light c.args.contract.now.number c.args.groups.now c.requires.few c.requires.small)
 
-pub overflow-add-result : goal.overflow-add-result
-overflow-add-result g c = record { fits = omega (arith, supplied-light c.args.contract.now.number c.args.groups.now c.requires.few c.requires.small, c.total.ensures, c.demand-of-own.ensures.within) }
+pub overflow_add-result : goal.overflow_add-result
+overflow_add-result g c = record { fits = omega (arith, supplied-light c.args.contract.now.number c.args.groups.now c.requires.few c.requires.small, c.total.ensures, c.demand-of-own.ensures.within) }
 
 pub returns : goal.returns
 returns g c =

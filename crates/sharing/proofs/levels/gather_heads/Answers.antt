@@ -9,29 +9,29 @@ use Rattle.sharing.proofs.levels.gather_heads.Goals as goal
 use Rattle.sharing.proofs.levels.gather_heads.Goals.{then-owner, else-owner}
 
 pub total-together-requires : goal.total-together-requires
-total-together-requires g c = omega (arith, claims-within g.row.M-Owned.owned g.M.Carries.carried c.number.result c.args.members.now, c.requires.light)
+total-together-requires g c = omega (arith, claims-within g.M.Owned.owned g.M.Carries.carried c.number.result c.args.members.now, c.requires.light)
 
 pub loop-head-preserved : goal.loop-head-preserved
 loop-head-preserved g c =
     let heads = c.args.heads.now in
     let members = c.args.members.now in
-    let claimed = claim_of g.H.Head.claimed g.H.Head.numbered g.row.M-Owned.owned g.M.Carries.carried members in
+    let claimed = claim_of g.H.Head.claimed g.H.Head.numbered g.M.Owned.owned g.M.Carries.carried members in
     let i = c.loop-head.head-index in
     let x = c.head-item.result in
     elim c.if-owner.branch [
       | then-owner w ↦
           let pushed = ap listed w.claims-is ∙ w.push.ensures in
-          let is = w.claim.ensures ∙ ap (g.H.Head.claimed x) (w.total-together.ensures ∙ ap (λ n. sum (claims_of g.row.M-Owned.owned g.M.Carries.carried n members)) w.number.ensures) in (
+          let is = w.claim.ensures ∙ ap (g.H.Head.claimed x) (w.total-together.ensures ∙ ap (λ n. sum (claims_of g.M.Owned.owned g.M.Carries.carried n members)) w.number.ensures) in (
             omega (arith, ap length pushed, length_push (listed c.loop-head.claims) w.claim.result, c.loop-head.invariant.0),
-            gather_yes g.row.H-Owned.owned c.args.owner heads i x c.loop-head-test.true c.head-item.is claimed (listed c.loop-head.claims) _ _ _ (sym c.owner.ensures ∙ w.if-owner.true) is pushed c.loop-head.invariant.1,
+            gather_yes g.H.Owned.owned c.args.owner heads i x c.loop-head-test.true c.head-item.is claimed (listed c.loop-head.claims) _ _ _ (sym c.owner.ensures ∙ w.if-owner.true) is pushed c.loop-head.invariant.1,
           )
       | else-owner w ↦
           let same = ap listed w.claims-is in (
             omega (arith, ap length same, c.loop-head.invariant.0),
-            gather_no g.row.H-Owned.owned c.args.owner heads i x c.loop-head-test.true c.head-item.is claimed (listed c.loop-head.claims) _ _ (λ e. w.if-owner.false (c.owner.ensures ∙ e)) same c.loop-head.invariant.1,
+            gather_no g.H.Owned.owned c.args.owner heads i x c.loop-head-test.true c.head-item.is claimed (listed c.loop-head.claims) _ _ (λ e. w.if-owner.false (c.owner.ensures ∙ e)) same c.loop-head.invariant.1,
           )
     ]
 
 pub returns : goal.returns
 returns g c =
-    gather_all g.row.H-Owned.owned c.args.owner (claim_of g.H.Head.claimed g.H.Head.numbered g.row.M-Owned.owned g.M.Carries.carried c.args.members.now) c.args.heads.now c.loop-head.head-index (listed c.loop-head.claims) _ c.loop-head-test.false c.loop-head.invariant.1
+    gather_all g.H.Owned.owned c.args.owner (claim_of g.H.Head.claimed g.H.Head.numbered g.M.Owned.owned g.M.Carries.carried c.args.members.now) c.args.heads.now c.loop-head.head-index (listed c.loop-head.claims) _ c.loop-head-test.false c.loop-head.invariant.1

@@ -9,10 +9,10 @@ use Rattle.sharing.proofs.levels.share_out_levels.Goals as goal
 
 pub give-out-requires : goal.give-out-requires
 give-out-requires g c =
-    let owned = g.row.H-Owned.owned in
+    let owned = g.H.Owned.owned in
     let heads = c.args.heads.now in
     let members = c.args.members.now in
-    let claimed = claim_of g.H.Head.claimed g.H.Head.numbered g.row.M-Owned.owned g.M.Carries.carried members in
+    let claimed = claim_of g.H.Head.claimed g.H.Head.numbered g.M.Owned.owned g.M.Carries.carried members in
     let listed = c.as-slice.ensures ∙ c.gather-heads-claims.ensures in
     let n = ap length listed ∙ length-claims owned c.args.owner claimed heads in
     record {
@@ -28,16 +28,16 @@ spread-out-requires g c =
     let rule = c.args.first.now in
     let keeps : Keeps (g.A.DivisionRule.parts rule) = record { each = g.met.A.DivisionRule.each rule; all = g.met.A.DivisionRule.all rule } in
     let heads = c.args.heads.now in
-    let claimed = claim_of g.H.Head.claimed g.H.Head.numbered g.row.M-Owned.owned g.M.Carries.carried c.args.members.now in
+    let claimed = claim_of g.H.Head.claimed g.H.Head.numbered g.M.Owned.owned g.M.Carries.carried c.args.members.now in
     let old = c.args.head-figures.now in
     let new = c.give-out.new.figures in
-    let e = given-shared (g.A.DivisionRule.parts rule) keeps g.row.H-Owned.owned claimed c.args.owner c.args.whole heads old c.as-slice.result.now (to_z w64 (of_z w64 c.args.whole)) new (c.as-slice.ensures ∙ c.gather-heads-claims.ensures) (back c.args.whole c.ranges.whole) c.give-out.ensures in
+    let e = given-shared (g.A.DivisionRule.parts rule) keeps g.H.Owned.owned claimed c.args.owner c.args.whole heads old c.as-slice.result.now (to_z w64 (of_z w64 c.args.whole)) new (c.as-slice.ensures ∙ c.gather-heads-claims.ensures) (back c.args.whole c.ranges.whole) c.give-out.ensures in
     record {
       few = c.requires.few.1;
       light = c.requires.light;
       heads = c.give-out.auto.figures ∙ c.requires.heads;
       members = c.requires.members;
-      small = λ k h lt read mine. omega (arith, (shared_out (g.A.DivisionRule.parts rule) keeps g.row.H-Owned.owned claimed c.args.owner c.args.whole heads old new c.requires.heads e).within k h lt read mine, c.requires.small);
+      small = λ k h lt read mine. omega (arith, (shared_out (g.A.DivisionRule.parts rule) keeps g.H.Owned.owned claimed c.args.owner c.args.whole heads old new c.requires.heads e).within k h lt read mine, c.requires.small);
     }
 
 pub returns : goal.returns
@@ -48,12 +48,12 @@ returns g c =
     let keeps2 : Keeps (g.B.DivisionRule.parts rule2) = record { each = g.met.B.DivisionRule.each rule2; all = g.met.B.DivisionRule.all rule2 } in
     let heads = c.args.heads.now in
     let members = c.args.members.now in
-    let claimed = claim_of g.H.Head.claimed g.H.Head.numbered g.row.M-Owned.owned g.M.Carries.carried members in
+    let claimed = claim_of g.H.Head.claimed g.H.Head.numbered g.M.Owned.owned g.M.Carries.carried members in
     let old = c.args.head-figures.now in
     let new = c.give-out.new.figures in
-    let e = given-shared (g.A.DivisionRule.parts rule) keeps g.row.H-Owned.owned claimed c.args.owner c.args.whole heads old c.as-slice.result.now (to_z w64 (of_z w64 c.args.whole)) new (c.as-slice.ensures ∙ c.gather-heads-claims.ensures) (back c.args.whole c.ranges.whole) c.give-out.ensures in
+    let e = given-shared (g.A.DivisionRule.parts rule) keeps g.H.Owned.owned claimed c.args.owner c.args.whole heads old c.as-slice.result.now (to_z w64 (of_z w64 c.args.whole)) new (c.as-slice.ensures ∙ c.gather-heads-claims.ensures) (back c.args.whole c.ranges.whole) c.give-out.ensures in
     record {
       heads = e;
       members = c.spread-out.ensures;
-      levels = shared_on_levels (g.A.DivisionRule.parts rule) (g.B.DivisionRule.parts rule2) keeps keeps2 g.H.Head.claimed g.row.H-Owned.owned g.H.Head.numbered g.row.M-Owned.owned g.M.Carries.carried c.args.owner c.args.whole heads members old new c.args.member-figures.now c.spread-out.new.member-figures c.requires.apart c.requires.heads c.requires.members e c.spread-out.ensures;
+      levels = shared_on_levels (g.A.DivisionRule.parts rule) (g.B.DivisionRule.parts rule2) keeps keeps2 g.H.Head.claimed g.H.Owned.owned g.H.Head.numbered g.M.Owned.owned g.M.Carries.carried c.args.owner c.args.whole heads members old new c.args.member-figures.now c.spread-out.new.member-figures c.requires.apart c.requires.heads c.requires.members e c.spread-out.ensures;
     }

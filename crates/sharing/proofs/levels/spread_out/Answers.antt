@@ -12,16 +12,16 @@ share-out-requires g c =
     record {
       few = c.requires.few;
       room = c.loop-k.auto.member-figures ∙ c.requires.members;
-      light = omega (arith, claims-within g.row.M-Owned.owned g.M.Carries.carried c.number.result c.args.members.now, c.requires.light);
+      light = omega (arith, claims-within g.M.Owned.owned g.M.Carries.carried c.number.result c.args.members.now, c.requires.light);
       small = omega (arith, h, ap nat_abs (back-small (get_or c.args.head-figures.now c.loop-k.k (pos 0)) h));
     }
 
 pub loop-k-preserved : goal.loop-k-preserved
 loop-k-preserved g c =
     let f = g.B.DivisionRule.parts c.args.second.now in
-    let ho = g.row.H-Owned.owned in
+    let ho = g.H.Owned.owned in
     let hn = g.H.Head.numbered in
-    let mo = g.row.M-Owned.owned in
+    let mo = g.M.Owned.owned in
     let mc = g.M.Carries.carried in
     let k = c.loop-k.k in
     let ms = c.args.members.now in
@@ -44,4 +44,4 @@ loop-k-preserved g c =
     ]
 
 pub returns : goal.returns
-returns g c = spread_all g.row.H-Owned.owned g.H.Head.numbered g.row.M-Owned.owned g.M.Carries.carried (g.B.DivisionRule.parts c.args.second.now) c.args.owner c.args.members.now c.args.heads.now c.args.head-figures.now c.loop-k.member-figures _ c.loop-k.k (omega arith) c.loop-k.invariant
+returns g c = spread_all g.H.Owned.owned g.H.Head.numbered g.M.Owned.owned g.M.Carries.carried (g.B.DivisionRule.parts c.args.second.now) c.args.owner c.args.members.now c.args.heads.now c.args.head-figures.now c.loop-k.member-figures _ c.loop-k.k (omega arith) c.loop-k.invariant

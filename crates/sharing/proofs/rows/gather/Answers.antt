@@ -14,14 +14,14 @@ loop-row-preserved g c =
       | then-owner w ↦
           let pushed = ap listed w.claims-is ∙ w.push.ensures in (
             omega (arith, ap length pushed, length_push (listed c.loop-row.claims) w.kwh.result, c.loop-row.invariant.0),
-            gather_yes g.row.T-Owned.owned c.args.owner rows i x c.loop-row-test.true c.row-item.is g.T.Carries.carried (listed c.loop-row.claims) _ _ _ (sym c.owner.ensures ∙ w.if-owner.true) w.kwh.ensures pushed c.loop-row.invariant.1,
+            gather_yes g.T.Owned.owned c.args.owner rows i x c.loop-row-test.true c.row-item.is g.T.Carries.carried (listed c.loop-row.claims) _ _ _ (sym c.owner.ensures ∙ w.if-owner.true) w.kwh.ensures pushed c.loop-row.invariant.1,
           )
       | else-owner w ↦
           let same = ap listed w.claims-is in (
             omega (arith, ap length same, c.loop-row.invariant.0),
-            gather_no g.row.T-Owned.owned c.args.owner rows i x c.loop-row-test.true c.row-item.is g.T.Carries.carried (listed c.loop-row.claims) _ _ (λ e. w.if-owner.false (c.owner.ensures ∙ e)) same c.loop-row.invariant.1,
+            gather_no g.T.Owned.owned c.args.owner rows i x c.loop-row-test.true c.row-item.is g.T.Carries.carried (listed c.loop-row.claims) _ _ (λ e. w.if-owner.false (c.owner.ensures ∙ e)) same c.loop-row.invariant.1,
           )
     ]
 
 pub returns : goal.returns
-returns g c = gather_all g.row.T-Owned.owned c.args.owner g.T.Carries.carried c.args.rows.now c.loop-row.row-index (listed c.loop-row.claims) _ c.loop-row-test.false c.loop-row.invariant.1
+returns g c = gather_all g.T.Owned.owned c.args.owner g.T.Carries.carried c.args.rows.now c.loop-row.row-index (listed c.loop-row.claims) _ c.loop-row-test.false c.loop-row.invariant.1

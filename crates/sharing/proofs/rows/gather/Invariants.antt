@@ -5,5 +5,5 @@ use Rattle.sharing.proofs.rows.gather.Given as goal
 
 abbrev pub invariant-loop-row : goal.invariant-loop-row
 invariant-loop-row g l =
-    let claims = claims_of g.row.T-Owned.owned g.T.Carries.carried l.owner in
+    let claims = claims_of g.T.Owned.owned g.T.Carries.carried l.owner in
     (length (listed l.claims) ≤ l.row-index) × (listed l.claims ++ claims (drop l.row-index l.rows) ≡ claims l.rows)

@@ -7,7 +7,7 @@ use Rattle.sharing.proofs.rows.give_out.Goals as goal
 
 pub returns-then-claims-eq0 : goal.returns-then-claims-eq0
 returns-then-claims-eq0 g c =
-    let owned = g.row.T-Owned.owned in
+    let owned = g.T.Owned.owned in
     let rule = c.args.rule.now in
     let m = nat_abs c.args.whole in
     let cs = c.args.claims.now in

@@ -7,12 +7,12 @@ use Rattle.sharing.proofs.rows.scatter.Goals.{then-owner, else-owner}
 
 pub bounds-parts-n : goal.bounds-parts-n
 bounds-parts-n g c =
-    let m = count_yes g.row.T-Owned.owned c.args.owner c.args.rows.now c.loop-i.i c.index-rows-i.result (omega arith) c.index-rows-i.is (sym c.owner.ensures ∙ c.if-owner.true) in
+    let m = count_yes g.T.Owned.owned c.args.owner c.args.rows.now c.loop-i.i c.index-rows-i.result (omega arith) c.index-rows-i.is (sym c.owner.ensures ∙ c.if-owner.true) in
     omega (arith, m, c.loop-i.invariant.0)
 
 pub loop-i-preserved : goal.loop-i-preserved
 loop-i-preserved g c =
-    let owned = g.row.T-Owned.owned in
+    let owned = g.T.Owned.owned in
     let rows = c.args.rows.now in
     let i = c.loop-i.i in
     let x = c.index-rows-i.result in
@@ -37,4 +37,4 @@ loop-i-preserved g c =
 
 pub returns : goal.returns
 returns g c =
-    scatter_all g.row.T-Owned.owned c.args.owner c.args.rows.now c.loop-i.i (drop c.loop-i.n c.args.parts.now) c.loop-i.figures _ (omega arith) (omega arith) c.loop-i.invariant.1
+    scatter_all g.T.Owned.owned c.args.owner c.args.rows.now c.loop-i.i (drop c.loop-i.n c.args.parts.now) c.loop-i.figures _ (omega arith) (omega arith) c.loop-i.invariant.1

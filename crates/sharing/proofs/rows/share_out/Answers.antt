@@ -7,7 +7,7 @@ use Rattle.sharing.proofs.rows.share_out.Goals as goal
 
 pub give-out-requires : goal.give-out-requires
 give-out-requires g c =
-    let owned = g.row.T-Owned.owned in
+    let owned = g.T.Owned.owned in
     let rows = c.args.rows.now in
     let listed = c.as-slice.ensures ∙ c.gather-claims.ensures in
     let n = ap length listed ∙ length-claims owned c.args.owner g.T.Carries.carried rows in
@@ -21,7 +21,7 @@ give-out-requires g c =
 
 pub returns : goal.returns
 returns g c =
-    let owned = g.row.T-Owned.owned in
+    let owned = g.T.Owned.owned in
     let rule = c.args.rule.now in
     let f = g.R.DivisionRule.parts rule in
     let met = g.met.R.DivisionRule in

@@ -7,8 +7,8 @@ use Rattle.sheet.proofs.writing.put_natural.Goals as goal
 room : (c : goal.In-loop-rest) → 1 ≤ c.loop-rest.first
 room c = spell_room c.args.n c.loop-rest.rest c.loop-rest.first c.loop-rest.digits (omega arith) (omega arith) (omega arith) (omega arith) (omega arith) c.loop-rest.invariant.0
 
-pub overflow-sub-first : goal.overflow-sub-first
-overflow-sub-first c = room c
+pub overflow_sub-first : goal.overflow_sub-first
+overflow_sub-first c = room c
 
 pub loop-rest-preserved : goal.loop-rest-preserved
 loop-rest-preserved c =

@@ -2,8 +2,8 @@ use Rattle.std.proofs.Common.{◌≡◌, ◌<◌, ◌≤◌, [], ◌∷◌, ◌+
 use Rattle.std.proofs.lemmas.List.{take_more_set, replicate_more}
 use Rattle.tables.proofs.Table.wipe.Goals as goal
 
-pub invariant-of-self : goal.invariant-of-self
-invariant-of-self g c = (omega arith, (c.loop-place.invariant.0, tt))
+pub invariant_of-self : goal.invariant_of-self
+invariant_of-self g c = record { within = omega arith; whole = c.loop-place.invariant.0 }
 
 pub loop-place-init : goal.loop-place-init
 loop-place-init g c = (c.args.self.now.whole, refl)
@@ -22,4 +22,4 @@ returns g c =
     let i = c.loop-place.place-index in
     let past : length items ≤ i = omega arith in
     let all : i ≡ g.row.N = omega arith in
-    (refl, sym (take_all i items past) ∙ c.loop-place.invariant.1 ∙ ap (λ n. replicate n c.args.blank) all)
+    (record { self_after = refl; self_after_2 = sym (take_all i items past) ∙ c.loop-place.invariant.1 ∙ ap (λ n. replicate n c.args.blank) all })

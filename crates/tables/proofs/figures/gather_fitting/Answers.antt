@@ -4,7 +4,7 @@ use Rattle.tables.specs.Listed.{listed}
 use Rattle.tables.proofs.Finding.{count_on}
 use Rattle.tables.proofs.Gathering.{gathered_yes, gathered_no, gathered_all}
 use Rattle.tables.proofs.figures.gather_fitting.Goals as goal
-use Rattle.tables.proofs.figures.gather_fitting.Goals.{then_is, else_is}
+use Rattle.tables.proofs.figures.gather_fitting.Goals.{then-is, else-is}
 
 pub push-requires : goal.push-requires
 push-requires g c =
@@ -23,13 +23,13 @@ loop-i-preserved g c =
     let on = count_on fits rows i x c.is.result c.loop-i-test.true c.index-rows-i.is c.is.ensures in
     let room : i < length xs = omega (arith, c.requires.room, c.loop-i-test.true) in
     elim c.if-is.branch [
-      | then_is w ↦
+      | then-is w ↦
           let here = simp w.if-is.true at on in
           let pushed = ap listed w.gathered-is ∙ w.push.ensures in (
             omega (arith, ap length pushed, length_push out w.from.result, here, c.loop-i.invariant.0),
             gathered_yes fits rows xs i x c.loop-i-test.true room c.index-rows-i.is out _ _ c.loop-i.invariant.1 w.from.result (sym c.is.ensures ∙ w.if-is.true) w.from.ensures pushed,
           )
-      | else_is w ↦
+      | else-is w ↦
           let here = simp w.if-is.false at on in
           let same = ap listed w.gathered-is in (
             omega (arith, ap length same, here, c.loop-i.invariant.0),

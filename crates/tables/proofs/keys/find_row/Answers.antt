@@ -8,8 +8,8 @@ use Rattle.tables.proofs.keys.find_row.Goals.{In-Some}
 there : (g : given.Over) (c : In-Some g) → First (g.T.Keyed.fits c.args.key) c.args.rows.now c.in-Some.i
 there g c = found (g.T.Keyed.fits c.args.key) c.args.rows.now c.in-Some.i (sym c.in-Some.ensures)
 
-pub offset-bounds-rows-i : goal.offset-bounds-rows-i
-offset-bounds-rows-i g c = omega (arith, (there g c).within)
+pub offset_bounds-rows-i : goal.offset_bounds-rows-i
+offset_bounds-rows-i g c = omega (arith, (there g c).within)
 
 pub bounds-rows-i : goal.bounds-rows-i
 bounds-rows-i g c = (there g c).within

@@ -13,7 +13,7 @@ pub returns-then-kwh-most : goal.returns-then-kwh-most
 returns-then-kwh-most g c =
     let x = c.row-item.result in
     let p = tested c.args.whose _ _ _ c.if-counts.ensures c.owner.ensures in
-    let step = sum_yes (λ r. counts c.args.whose (g.T-as-Owned.owned r)) g.T.Carries.carried c.args.rows.now c.loop-row.row-index x c.loop-row-test.true c.row-item.is p in
+    let step = sum_yes (λ r. counts c.args.whose (g.T.Owned.owned r)) g.T.Carries.carried c.args.rows.now c.loop-row.row-index x c.loop-row-test.true c.row-item.is p in
     omega (arith, step, c.kwh-kwh.ensures, c.loop-row.invariant.1)
 
 pub loop-row-preserved : goal.loop-row-preserved
@@ -22,14 +22,14 @@ loop-row-preserved g c =
     elim c.if-counts.branch [
       | then-counts+else-kwh-most w ↦
           let p = tested c.args.whose _ _ _ w.if-counts.ensures c.owner.ensures in
-          let step = sum_yes (λ r. counts c.args.whose (g.T-as-Owned.owned r)) g.T.Carries.carried c.args.rows.now c.loop-row.row-index x c.loop-row-test.true c.row-item.is p in
+          let step = sum_yes (λ r. counts c.args.whose (g.T.Owned.owned r)) g.T.Carries.carried c.args.rows.now c.loop-row.row-index x c.loop-row-test.true c.row-item.is p in
           (omega (arith, w.total-is, w.if-kwh-most.false, c.loop-row.invariant.0), omega (arith, w.total-is, step, w.kwh-kwh.ensures, c.loop-row.invariant.1))
       | else-counts w ↦
           let p = tested c.args.whose _ _ _ w.if-counts.ensures c.owner.ensures in
-          let step = ap sum (carried_no (λ r. counts c.args.whose (g.T-as-Owned.owned r)) g.T.Carries.carried c.args.rows.now c.loop-row.row-index x c.loop-row-test.true c.row-item.is p) in
+          let step = ap sum (carried_no (λ r. counts c.args.whose (g.T.Owned.owned r)) g.T.Carries.carried c.args.rows.now c.loop-row.row-index x c.loop-row-test.true c.row-item.is p) in
           (omega (arith, w.total-is, c.loop-row.invariant.0), omega (arith, w.total-is, step, c.loop-row.invariant.1))
     ]
 
 pub returns : goal.returns
 returns g c =
-    (omega (arith, c.loop-row.invariant.1, ap sum (carried_end (λ r. counts c.args.whose (g.T-as-Owned.owned r)) g.T.Carries.carried c.args.rows.now c.loop-row.row-index c.loop-row-test.false)), c.loop-row.invariant.0)
+    (omega (arith, c.loop-row.invariant.1, ap sum (carried_end (λ r. counts c.args.whose (g.T.Owned.owned r)) g.T.Carries.carried c.args.rows.now c.loop-row.row-index c.loop-row-test.false)), c.loop-row.invariant.0)

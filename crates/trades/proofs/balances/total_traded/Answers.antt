@@ -11,8 +11,8 @@ pub total-requires : goal.total-requires
 total-requires c =
     omega (arith, ap sum (carried_all c.as-slice.result.now), ap sum (c.as-slice.ensures ∙ c.gather-fitting-gathered.ensures), traded-light c.args.direction c.args.contract c.args.lines.now c.args.figures.now c.requires.allowed c.requires.small)
 
-pub overflow-cast-result : goal.overflow-cast-result
-overflow-cast-result c =
+pub overflow_cast-result : goal.overflow_cast-result
+overflow_cast-result c =
     record { fits = omega (arith, c.total.ensures, ap sum (carried_all c.as-slice.result.now), ap sum (c.as-slice.ensures ∙ c.gather-fitting-gathered.ensures), traded-light c.args.direction c.args.contract c.args.lines.now c.args.figures.now c.requires.allowed c.requires.small) }
 
 pub returns : goal.returns
