@@ -34,8 +34,8 @@ def texts(root):
 
 
 def respelled(text, path, names):
-    proof = path.endswith((".antt", ".edit"))
-    chosen = names if proof else {old: new for old, new in names.items() if "-" not in old}
+    prose = path.endswith(".md")
+    chosen = {old: new for old, new in names.items() if "-" not in old} if prose else names
     return re.sub(r"(?<!%s)[A-Za-z]%s*(?!%s)" % (NAME, NAME, NAME), lambda found: chosen.get(found.group(0), found.group(0)), text)
 
 

@@ -3,7 +3,7 @@ ghost use Rattle.std.specs.Prelude.{◌≡◌, ◌+◌, ◌^◌, ◌<◌, ◌≤
 ghost use Rattle.division.specs.Limits.{divisible, Divided};
 ghost use Rattle.division.specs.Rules.{rounded_down, floors, topped, pro_rata};
 ghost use Rattle.division.specs.Nearness.{Near, EachWithinOne};
-ghost use Rattle.division.specs.Proportions.{length-pro-rata, sum-pro-rata};
+ghost use Rattle.division.specs.Proportions.{length_pro_rata, sum_pro_rata};
 
 use crate::{DivisionRule, admitted};
 use tables::totals::{Whose, total};
@@ -65,9 +65,9 @@ pub struct ProRata;
 impl DivisionRule for ProRata {
     ghost parts = { λ _ whole claims. pro_rata whole claims };
 
-    ghost each = { λ s w cs. length-pro-rata w cs };
+    ghost each = { λ s w cs. length_pro_rata w cs };
 
-    ghost all = { λ s w cs h. sum-pro-rata w cs h };
+    ghost all = { λ s w cs h. sum_pro_rata w cs h };
 
     fn divide(&self, whole: u64, claims: &[u64], into: &mut [u64]) -> Result<(), Refusal>
         ensures exact { Divided pro_rata whole claims.now into.old into.new result }

@@ -1,7 +1,7 @@
 // Meters that record each half hour by itself.
 ghost use Rattle.std.specs.Prelude.{◌≡◌};
 ghost use Rattle.metering.specs.Readings.{half_hour_reading, half_hour_read};
-ghost use Rattle.metering.specs.Bounds.{first-at-most, half-hour-at-most};
+ghost use Rattle.metering.specs.Bounds.{first-at_most, half_hour_at_most};
 ghost use Rattle.std.proofs.Common.{rules};
 
 use crate::lookup::{MeterRow, first_reading, is_number};
@@ -59,7 +59,7 @@ impl MeterSource for HalfHourTable {
 
     ghost largest = { 2000000 };
 
-    ghost bounded = { λ table meter kwh e. first-at-most (λ row. row.number) half_hour_reading 2000000 half-hour-at-most meter table.rows.items kwh e };
+    ghost bounded = { λ table meter kwh e. first-at_most (λ row. row.number) half_hour_reading 2000000 half_hour_at_most meter table.rows.items kwh e };
 
     ghost small = { Prim.search rules };
 

@@ -1,7 +1,7 @@
 // Meters with a register that only counts up, and starts again at 0 after 99,999.
 ghost use Rattle.std.specs.Prelude.{◌≡◌, ◌*◌, ◌≤◌};
 ghost use Rattle.metering.specs.Readings.{advance, register_fits, register_reading, register_read};
-ghost use Rattle.metering.specs.Bounds.{first-at-most, register-at-most};
+ghost use Rattle.metering.specs.Bounds.{first-at_most, register_at_most};
 ghost use Rattle.std.proofs.Common.{rules};
 
 use crate::lookup::{MeterRow, first_reading, is_number};
@@ -85,7 +85,7 @@ impl MeterSource for RegisterTable {
 
     ghost largest = { 1999980 };
 
-    ghost bounded = { λ table meter kwh e. first-at-most (λ row. row.number) register_reading 1999980 register-at-most meter table.rows.items kwh e };
+    ghost bounded = { λ table meter kwh e. first-at_most (λ row. row.number) register_reading 1999980 register_at_most meter table.rows.items kwh e };
 
     ghost small = { Prim.search rules };
 
