@@ -22,8 +22,8 @@ loop-i-preserved c =
       | then-share-plant w ↦
           let fits : SFits w64 x = search rules in
           let pushed = ap listed w.claims-is ∙ w.push.ensures in (
-            omega (arith, ap length pushed, length_push out w.claim-of.result, c.loop-i.invariant.0),
-            claims_yes c.args.plant shares plans i s c.loop-i-test.true room read out _ _ c.loop-i.invariant.1 w.claim-of.result (eq-eqb _ _ w.if-share-plant.true) (w.claim-of.ensures ∙ ap (claim_of s) (back x fits)) pushed,
+            omega (arith, ap length pushed, length_push out w.claim_of.result, c.loop-i.invariant.0),
+            claims_yes c.args.plant shares plans i s c.loop-i-test.true room read out _ _ c.loop-i.invariant.1 w.claim_of.result (eq-eqb _ _ w.if-share-plant.true) (w.claim_of.ensures ∙ ap (claim_of s) (back x fits)) pushed,
           )
       | else-share-plant w ↦
           let same = ap listed w.claims-is in (

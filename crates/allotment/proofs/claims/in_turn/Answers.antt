@@ -10,7 +10,7 @@ loop-rank-preserved c =
     let claims = c.args.claims.now in
     let rank = c.loop-rank.rank in
     let out = listed c.loop-rank.turns in
-    elim c.match-find-row.branch [
+    elim c.match-find_row.branch [
       | in-Some w ↦
           let pushed = ap listed w.turns-is ∙ w.push.ensures in (
             omega (arith, ap length pushed, length_push out w.in-Some.claim, c.loop-rank.invariant.0),

@@ -16,7 +16,7 @@ loop-plant-preserved g c =
     let none : Plant = record { meter = 0 } in
     let p = get_or plants n none in
     outputs_more (g.R.DivisionRule.parts c.args.rule.now) (λ (meter : ℕ). kwh_of (g.S.MeterSource.read c.args.source.now meter)) plants c.args.shares.now c.args.plans.now c.args.allotted.now
-    n p c.loop-plant-test.true (get_or_default plants n none p c.loop-plant-test.true) c.kwh-of-reading.result c.kwh-of-reading.ensures.value c.loop-plant.allotted c.allot-plant.new.allotted c.loop-plant.invariant c.allot-plant.ensures
+    n p c.loop-plant-test.true (get_or_default plants n none p c.loop-plant-test.true) c.kwh_of-reading.result c.kwh_of-reading.ensures.value c.loop-plant.allotted c.allot_plant.new.allotted c.loop-plant.invariant c.allot_plant.ensures
 
 pub returns : goal.returns
 returns g c =

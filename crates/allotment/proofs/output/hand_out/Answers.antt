@@ -17,7 +17,7 @@ loop-i-preserved c =
     elim c.if-share-plant.branch [
       | then-share-plant w ↦
           w.allotted-is ∙ figured_yes (is_at c.args.plant) (λ (s : Share). part_of s.rank c.args.turns.now c.args.parts.now) shares c.args.allotted.now c.loop-i.allotted i s c.loop-i-test.true c.requires.room read c.loop-i.invariant
-          w.part-of.result (eq-eqb _ _ w.if-share-plant.true) w.part-of.ensures
+          w.part_of.result (eq-eqb _ _ w.if-share-plant.true) w.part_of.ensures
       | else-share-plant w ↦
           w.allotted-is ∙ figured_no (is_at c.args.plant) (λ (s : Share). part_of s.rank c.args.turns.now c.args.parts.now) shares c.args.allotted.now c.loop-i.allotted i s c.loop-i-test.true c.requires.room read c.loop-i.invariant
           (ne_eqb _ _ w.if-share-plant.false)

@@ -7,7 +7,7 @@ use Rattle.terms.specs.declared.records.Share.{Share}
 use Rattle.book.specs.Looking.{contract_of_group}
 use Rattle.book.proofs.Room.{blank}
 use Rattle.book.proofs.looking.count_shares.Goals as goal
-use Rattle.book.proofs.looking.count_shares.Goals.{then-contract-of-group-contract, else-contract-of-group-contract}
+use Rattle.book.proofs.looking.count_shares.Goals.{then-contract_of_group-contract, else-contract_of_group-contract}
 
 pub loop-share-preserved : goal.loop-share-preserved
 loop-share-preserved c =
@@ -16,13 +16,13 @@ loop-share-preserved c =
     let s = get_or shares i blank in
     let read = get_or_default shares i blank s c.loop-share-test.true in
     let mine : Share → Bool = λ q. eqb (contract_of_group c.args.groups.now q.group) c.args.contract in
-    elim c.if-contract-of-group-contract.branch [
-      | then-contract-of-group-contract w ↦
-          let told : true ≡ mine s = sym (eq-eqb _ _ (sym c.contract-of-group.ensures ∙ w.if-contract-of-group-contract.true)) in
+    elim c.if-contract_of_group-contract.branch [
+      | then-contract_of_group-contract w ↦
+          let told : true ≡ mine s = sym (eq-eqb _ _ (sym c.contract_of_group.ensures ∙ w.if-contract_of_group-contract.true)) in
           let on = count_on mine shares i s true c.loop-share-test.true read told in
           (omega (arith, w.count-is, c.loop-share.invariant.0), omega (arith, w.count-is, on, c.loop-share.invariant.1))
-      | else-contract-of-group-contract w ↦
-          let told : false ≡ mine s = sym (ne_eqb _ _ (λ e. w.if-contract-of-group-contract.false (c.contract-of-group.ensures ∙ e))) in
+      | else-contract_of_group-contract w ↦
+          let told : false ≡ mine s = sym (ne_eqb _ _ (λ e. w.if-contract_of_group-contract.false (c.contract_of_group.ensures ∙ e))) in
           let on = count_on mine shares i s false c.loop-share-test.true read told in
           (omega (arith, w.count-is, c.loop-share.invariant.0), omega (arith, w.count-is, on, c.loop-share.invariant.1))
     ]

@@ -5,8 +5,8 @@ use Rattle.division.specs.Rules.{rounded_down}
 use Rattle.division.proofs.Admitting.{admits}
 use Rattle.division.proofs.pro_rata.round_down.Goals as goal
 
-pub rounded-down-requires : goal.rounded-down-requires
-rounded-down-requires c =
+pub rounded_down-requires : goal.rounded_down-requires
+rounded_down-requires c =
     let cs = c.args.claims.now in
     let a = admits c.args.whole cs (length c.args.into.now) c.requires.admitted in
     let l : c.loop-i.i < length cs = omega arith in
@@ -21,8 +21,8 @@ loop-i-preserved c =
     let cs = c.args.claims.now in
     let a = admits c.args.whole cs (length c.args.into.now) c.requires.admitted in
     let i = c.loop-i.i in
-    written_more (rounded_down c.args.whole (sum cs) (length cs)) cs c.loop-i.into i 0 c.rounded-down.result (omega arith) (omega arith)
-    (c.rounded-down.ensures ∙ ap (λ t. rounded_down c.args.whole t (length cs) (get_or cs i 0)) c.requires.total) c.loop-i.invariant
+    written_more (rounded_down c.args.whole (sum cs) (length cs)) cs c.loop-i.into i 0 c.rounded_down.result (omega arith) (omega arith)
+    (c.rounded_down.ensures ∙ ap (λ t. rounded_down c.args.whole t (length cs) (get_or cs i 0)) c.requires.total) c.loop-i.invariant
 
 pub returns : goal.returns
 returns c =

@@ -10,31 +10,31 @@ pub total-given-requires : goal.total-given-requires
 total-given-requires c =
     let cs = c.args.claims.now in
     let a = admits c.args.whole cs (length c.args.into.now) c.requires.admitted in
-    omega (arith, ap sum (carried_all c.round-down.new.into), ap sum c.round-down.ensures, sum-floors_le c.args.whole cs a.some, a.small)
+    omega (arith, ap sum (carried_all c.round_down.new.into), ap sum c.round_down.ensures, sum-floors_le c.args.whole cs a.some, a.small)
 
 pub overflow_sub-whole : goal.overflow_sub-whole
 overflow_sub-whole c =
     let cs = c.args.claims.now in
     let a = admits c.args.whole cs (length c.args.into.now) c.requires.admitted in
-    omega (arith, c.total-given.ensures, ap sum (carried_all c.round-down.new.into), ap sum c.round-down.ensures, sum-floors_le c.args.whole cs a.some)
+    omega (arith, c.total-given.ensures, ap sum (carried_all c.round_down.new.into), ap sum c.round_down.ensures, sum-floors_le c.args.whole cs a.some)
 
-pub top-up-requires : goal.top-up-requires
-top-up-requires c =
+pub top_up-requires : goal.top_up-requires
+top_up-requires c =
     let cs = c.args.claims.now in
     let w = c.args.whole in
     let a = admits w cs (length c.args.into.now) c.requires.admitted in
     let s = sum-floors_le w cs a.some in
-    let given = c.total-given.ensures ∙ ap sum (carried_all c.round-down.new.into) ∙ ap sum c.round-down.ensures in
-    let l = ap length c.round-down.ensures ∙ length-floors w cs in
-    let t = ap sum c.round-down.ensures in
+    let given = c.total-given.ensures ∙ ap sum (carried_all c.round_down.new.into) ∙ ap sum c.round_down.ensures in
+    let l = ap length c.round_down.ensures ∙ length-floors w cs in
+    let t = ap sum c.round_down.ensures in
     record { few = omega (arith, l, given, left_below w cs a.some); small = omega (arith, t, given, s, a.small) }
 
 pub returns : goal.returns
 returns c =
     let cs = c.args.claims.now in
     let w = c.args.whole in
-    let given = c.total-given.ensures ∙ ap sum (carried_all c.round-down.new.into) ∙ ap sum c.round-down.ensures in
-    let is : c.top-up.new.into ≡ pro_rata w cs =
-    c.top-up.ensures ∙ ap (λ n. topped (w - n) c.round-down.new.into) given ∙ ap (topped (w - sum (floors w cs))) c.round-down.ensures in
+    let given = c.total-given.ensures ∙ ap sum (carried_all c.round_down.new.into) ∙ ap sum c.round_down.ensures in
+    let is : c.top_up.new.into ≡ pro_rata w cs =
+    c.top_up.ensures ∙ ap (λ n. topped (w - n) c.round_down.new.into) given ∙ ap (topped (w - sum (floors w cs))) c.round_down.ensures in
     let P : List ℕ → Type 0 = λ parts. EachWithinOne w cs parts in
     record { parts = is; near = subst P (sym is) (near w cs) }

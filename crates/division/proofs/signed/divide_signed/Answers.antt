@@ -4,13 +4,13 @@ use Rattle.division.proofs.Admitting.{admits}
 use Rattle.division.proofs.Signs.{parts-small}
 use Rattle.division.proofs.signed.divide_signed.Goals as goal
 
-pub sign-parts-requires : goal.sign-parts-requires
-sign-parts-requires g c =
+pub sign_parts-requires : goal.sign_parts-requires
+sign_parts-requires g c =
     let rule = c.args.rule.now in
     let cs = c.args.claims.now in
     let met = g.met.R.DivisionRule in
     let e = c.in-ok-divide.ensures in
-    let m = c.unsigned-abs.result in
+    let m = c.unsigned_abs.result in
     let a = admits m cs _ e.0 in
     let P : List ℕ → Type 0 = λ l. All (λ p. p ≤ 128000000) l in
     record {

@@ -5,13 +5,13 @@ use Rattle.division.specs.Signed.{with_sign, signed_parts}
 use Rattle.division.proofs.Signs.{back}
 use Rattle.division.proofs.signed.sign_parts.Goals as goal
 
-pub with-sign-requires : goal.with-sign-requires
-with-sign-requires c = All-get_or _ c.args.parts.now c.loop-i.i 0 (omega arith) c.requires.small
+pub with_sign-requires : goal.with_sign-requires
+with_sign-requires c = All-get_or _ c.args.parts.now c.loop-i.i 0 (omega arith) c.requires.small
 
 pub loop-i-preserved : goal.loop-i-preserved
 loop-i-preserved c =
     written_more (with_sign (to_z w64 (of_z w64 c.args.whole))) c.args.parts.now c.loop-i.into c.loop-i.i 0 _ (omega arith) (omega arith)
-    (back c.with-sign.result (record { sfits = c.with-sign.type_inv }) ∙ c.with-sign.ensures) c.loop-i.invariant
+    (back c.with_sign.result (record { sfits = c.with_sign.type_inv }) ∙ c.with_sign.ensures) c.loop-i.invariant
 
 pub returns : goal.returns
 returns c =

@@ -7,8 +7,8 @@ use Rattle.division.proofs.Signs.{back-small}
 use Rattle.figures.proofs.Parted.{Small}
 use Rattle.figures.proofs.plans.show_groups.Goals as goal
 
-pub group-plan-plan-requires : goal.group-plan-plan-requires
-group-plan-plan-requires c =
+pub group_plan-plan-requires : goal.group_plan-plan-requires
+group_plan-plan-requires c =
     let k = c.loop-k.k in
     let parts = c.args.parts.now in
     let within : k < length parts = omega (arith, c.requires.room, c.loop-k-test.true) in

@@ -5,11 +5,11 @@ use Rattle.metering.proofs.demand.metered_demand.Goals as goal
 
 pub total-requires : goal.total-requires
 total-requires g c =
-    omega (arith, total_readings c.as-slice.result.now (listed c.in-Ok.gathered) c.as-slice.ensures, c.in-Ok.ensures.light)
+    omega (arith, total_readings c.as_slice.result.now (listed c.in-Ok.gathered) c.as_slice.ensures, c.in-Ok.ensures.light)
 
 pub multiply-requires : goal.multiply-requires
 multiply-requires g c = record {
-  light = omega (arith, c.total.ensures, total_readings c.as-slice.result.now (listed c.in-Ok.gathered) c.as-slice.ensures, c.in-Ok.ensures.light);
+  light = omega (arith, c.total.ensures, total_readings c.as_slice.result.now (listed c.in-Ok.gathered) c.as_slice.ensures, c.in-Ok.ensures.light);
   small = c.requires.small;
 }
 

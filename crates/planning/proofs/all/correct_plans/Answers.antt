@@ -12,14 +12,14 @@ loop-contract-preserved g c =
     let blank : Contract = record { number = 0; kind = Generation; multiplier = 0 } in
     let x = get_or cs n blank in
     let lg = c.loop-contract.auto.group_parts ∙ c.requires.groups in
-    let ls = c.loop-contract.auto.share-plans ∙ c.requires.shares in
+    let ls = c.loop-contract.auto.share_plans ∙ c.requires.shares in
     done_more (g.A.DivisionRule.parts c.args.first.now) (g.B.DivisionRule.parts c.args.second.now) cs c.args.lines.now c.args.figures.now c.args.groups.now c.args.shares.now
     c.requires.apart c.requires.limits.apart n x c.loop-contract-test.true (get_or_default cs n blank x c.loop-contract-test.true)
-    c.args.group_parts.now c.loop-contract.group_parts c.args.share-plans.now c.loop-contract.share-plans c.correct-contract.new.group_parts c.correct-contract.new.share-plans
-    lg (c.correct-contract.auto.group_parts ∙ lg) ls (c.correct-contract.auto.share-plans ∙ ls)
-    c.correct-contract.ensures c.loop-contract.invariant
+    c.args.group_parts.now c.loop-contract.group_parts c.args.share_plans.now c.loop-contract.share_plans c.correct_contract.new.group_parts c.correct_contract.new.share_plans
+    lg (c.correct_contract.auto.group_parts ∙ lg) ls (c.correct_contract.auto.share_plans ∙ ls)
+    c.correct_contract.ensures c.loop-contract.invariant
 
 pub returns : goal.returns
 returns g c =
     done_all (g.A.DivisionRule.parts c.args.first.now) (g.B.DivisionRule.parts c.args.second.now) c.args.contracts.now c.args.lines.now c.args.figures.now c.args.groups.now c.args.shares.now
-    c.loop-contract.contract-index c.args.group_parts.now c.loop-contract.group_parts c.args.share-plans.now c.loop-contract.share-plans (omega arith) c.loop-contract.invariant
+    c.loop-contract.contract-index c.args.group_parts.now c.loop-contract.group_parts c.args.share_plans.now c.loop-contract.share_plans (omega arith) c.loop-contract.invariant

@@ -5,4 +5,4 @@ use Rattle.planning.proofs.all.correct_plans.Given as goal
 abbrev pub invariant-loop-contract : goal.invariant-loop-contract
 invariant-loop-contract g l =
     Done (g.A.DivisionRule.parts l.first) (g.B.DivisionRule.parts l.second) l.contracts l.lines l.figures l.groups l.shares
-    l.contract-index l.initial.group_parts l.group_parts l.initial.share-plans l.share-plans
+    l.contract-index l.initial.group_parts l.group_parts l.initial.share_plans l.share_plans

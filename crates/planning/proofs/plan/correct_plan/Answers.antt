@@ -3,8 +3,8 @@ use Rattle.division.proofs.Signs.{back}
 use Rattle.planning.proofs.Deemed.{apart-small, shares-light, claims-light}
 use Rattle.planning.proofs.plan.correct_plan.Goals as goal
 
-pub share-out-levels-requires : goal.share-out-levels-requires
-share-out-levels-requires g c =
+pub share_out_levels-requires : goal.share_out_levels-requires
+share_out_levels-requires g c =
     let l = c.requires.limits in
     let own = c.own.ensures in
     let P : ℤ → Type 0 = λ z. nat_abs z ≤ 128000000 in

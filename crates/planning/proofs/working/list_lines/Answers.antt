@@ -18,8 +18,8 @@ bounds-claims-n g c =
     let m = count_yes g.T.Owned.owned c.args.owner c.args.rows.now c.loop-i.i c.index-rows-i.result (omega arith) c.index-rows-i.is (sym c.owner.ensures ∙ c.if-owner.true) in
     omega (arith, m, c.loop-i.invariant.1)
 
-pub work-out-part-requires : goal.work-out-part-requires
-work-out-part-requires g c =
+pub work_out_part-requires : goal.work_out_part-requires
+work_out_part-requires g c =
     let cs = c.args.claims.now in
     let m = count_yes g.T.Owned.owned c.args.owner c.args.rows.now c.loop-i.i c.index-rows-i.result (omega arith) c.index-rows-i.is (sym c.owner.ensures ∙ c.if-owner.true) in
     let lt : c.loop-i.n < length cs = omega (arith, m, c.loop-i.invariant.1) in
@@ -51,12 +51,12 @@ loop-i-preserved g c =
           let pushed = ap listed w.lines-is ∙ w.push.ensures in
           let x64 : ℤ = to_z w64 (of_z w64 (get_or xs i (pos 0))) in
           let fits : SFits w64 (get_or xs i (pos 0)) = search rules in
-          let is : w.work-out-part.result ≡ line (known x) (get_or cs n 0) (get_or xs i (pos 0)) =
-          w.work-out-part.ensures
-          ∙ ap (λ t. working_of whole t (length cs) w.known-by.result (get_or cs n 0) x64) all
-          ∙ ap (λ k. line k (get_or cs n 0) x64) w.known-by.ensures
+          let is : w.work_out_part.result ≡ line (known x) (get_or cs n 0) (get_or xs i (pos 0)) =
+          w.work_out_part.ensures
+          ∙ ap (λ t. working_of whole t (length cs) w.known_by.result (get_or cs n 0) x64) all
+          ∙ ap (λ k. line k (get_or cs n 0) x64) w.known_by.ensures
           ∙ ap (line (known x) (get_or cs n 0)) (back (get_or xs i (pos 0)) fits) in (
-            omega (arith, ap length pushed, length_push out w.work-out-part.result, c.loop-i.invariant.0),
+            omega (arith, ap length pushed, length_push out w.work_out_part.result, c.loop-i.invariant.0),
             omega (arith, w.n-is, m, c.loop-i.invariant.1),
             rw w.n-is (lines_yes owned known c.args.owner line rows i x (omega arith) c.index-rows-i.is cs n xs lx out _ _ _ mine is pushed c.loop-i.invariant.2),
           )

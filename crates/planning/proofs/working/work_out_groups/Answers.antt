@@ -10,17 +10,17 @@ use Rattle.planning.proofs.Deemed.{shares-light, claims-light}
 use Rattle.planning.proofs.Explaining.{divided_as}
 use Rattle.planning.proofs.working.work_out_groups.Goals as goal
 
-pub gather-heads-claims-requires : goal.gather-heads-claims-requires
-gather-heads-claims-requires c =
+pub gather_heads-claims-requires : goal.gather_heads-claims-requires
+gather_heads-claims-requires c =
     let l = c.requires.limits in
     record { few = omega (arith, l.few_groups); light = omega (arith, shares-light c.args.shares.now l.few_shares l.planned) }
 
-pub work-out-requires : goal.work-out-requires
-work-out-requires c =
+pub work_out-requires : goal.work_out-requires
+work_out-requires c =
     let l = c.requires.limits in
     let groups = c.args.groups.now in
     let shares = c.args.shares.now in
-    let listed = c.as-slice.ensures ∙ c.gather-heads-claims.ensures in
+    let listed = c.as_slice.ensures ∙ c.gather_heads-claims.ensures in
     let whole = back c.args.deemed c.ranges.deemed in
     record {
       few = omega (arith, l.few_groups);
@@ -28,5 +28,5 @@ work-out-requires c =
       each = ap length listed ∙ length-claims (λ (g : Group). g.contract) c.args.contract (claim_of (λ (g : Group). claim_in g.sort) (λ (g : Group). g.number) (λ (s : Share). s.group) (λ (s : Share). s.planned) shares) groups;
       light = omega (arith, ap sum listed, claims-light c.args.contract groups shares l);
       small = omega (arith, ap nat_abs whole, c.requires.small);
-      divided = divided_as (plans_of_groups c.args.contract groups c.args.group-plans.now) c.args.deemed _ (group_claims c.args.contract groups shares) _ whole listed c.requires.divided;
+      divided = divided_as (plans_of_groups c.args.contract groups c.args.group_plans.now) c.args.deemed _ (group_claims c.args.contract groups shares) _ whole listed c.requires.divided;
     }

@@ -8,10 +8,10 @@ use Rattle.planning.proofs.Deemed.{shares-light}
 use Rattle.planning.proofs.Explaining.{divided_as}
 use Rattle.planning.proofs.working.work_out_shares.Goals as goal
 
-pub work-out-requires : goal.work-out-requires
-work-out-requires c =
+pub work_out-requires : goal.work_out-requires
+work_out-requires c =
     let shares = c.args.shares.now in
-    let listed = c.as-slice.ensures ∙ c.gather-claims.ensures in
+    let listed = c.as_slice.ensures ∙ c.gather-claims.ensures in
     let within = claims-within (λ (s : Share). s.group) (λ (s : Share). s.planned) c.args.group shares in
     let whole = back c.args.plan c.ranges.plan in
     record {
@@ -20,5 +20,5 @@ work-out-requires c =
       each = ap length listed ∙ length-claims (λ (s : Share). s.group) c.args.group (λ (s : Share). s.planned) shares;
       light = omega (arith, ap sum listed, within, shares-light shares c.requires.few c.requires.planned);
       small = omega (arith, ap nat_abs whole, c.requires.small);
-      divided = divided_as (plans_of_shares c.args.group shares c.args.share-plans.now) c.args.plan _ (share_claims c.args.group shares) _ whole listed c.requires.divided;
+      divided = divided_as (plans_of_shares c.args.group shares c.args.share_plans.now) c.args.plan _ (share_claims c.args.group shares) _ whole listed c.requires.divided;
     }

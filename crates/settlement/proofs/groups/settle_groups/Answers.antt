@@ -11,8 +11,8 @@ use Rattle.settlement.proofs.Grouping.{no_group, not_yet, groups-small}
 use Rattle.settlement.proofs.Metering.{reads_small}
 use Rattle.settlement.proofs.groups.settle_groups.Goals as goal
 
-pub settle-group-requires : goal.settle-group-requires
-settle-group-requires g c =
+pub settle_group-requires : goal.settle_group-requires
+settle_group-requires g c =
     let i = c.loop-i.i in
     let x = get_or c.args.parts.now i (pos 0) in
     let small : nat_abs x ≤ 128000000 = All-get_or (λ (z : ℤ). nat_abs z ≤ 128000000) c.args.parts.now i (pos 0) (omega (arith, c.requires.groupable.parts-room)) c.requires.groupable.parts-small in
@@ -35,8 +35,8 @@ loop-i-preserved g c =
     let small : nat_abs x ≤ 128000000 = All-get_or (λ (z : ℤ). nat_abs z ≤ 128000000) parts i (pos 0) room c.requires.groupable.parts-small in
     let reads = kwh_read (g.S.MeterSource.read c.args.source.now) in
     let settle = group_settled reads c.args.contracts.now c.args.places.now c.args.shares.now c.args.allotted.now in
-    let is = c.settle-group.ensures ∙ ap (settle (get_or groups i no_group)) (back-small x small) ∙ sym (with_at settle groups parts i no_group (pos 0) not_yet c.loop-i-test.true room) in
-    taken_more (groups_settled reads c.args.contracts.now c.args.places.now c.args.shares.now c.args.allotted.now groups parts) c.loop-i.settled i c.settle-group.result not_yet
+    let is = c.settle_group.ensures ∙ ap (settle (get_or groups i no_group)) (back-small x small) ∙ sym (with_at settle groups parts i no_group (pos 0) not_yet c.loop-i-test.true room) in
+    taken_more (groups_settled reads c.args.contracts.now c.args.places.now c.args.shares.now c.args.allotted.now groups parts) c.loop-i.settled i c.settle_group.result not_yet
     (omega (arith, length_with settle groups parts c.requires.groupable.parts-room)) (omega arith) is c.loop-i.invariant
 
 pub returns : goal.returns

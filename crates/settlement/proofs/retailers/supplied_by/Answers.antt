@@ -8,13 +8,13 @@ pub total-requires : goal.total-requires
 total-requires g c = omega (arith, supplied-light c.args.contract.now.number c.args.groups.now c.requires.few c.requires.small)
 
 pub overflow_add-result : goal.overflow_add-result
-overflow_add-result g c = record { fits = omega (arith, supplied-light c.args.contract.now.number c.args.groups.now c.requires.few c.requires.small, c.total.ensures, c.demand-of-own.ensures.within) }
+overflow_add-result g c = record { fits = omega (arith, supplied-light c.args.contract.now.number c.args.groups.now c.requires.few c.requires.small, c.total.ensures, c.demand_of-own.ensures.within) }
 
 pub returns : goal.returns
 returns g c =
     let most = supplied-light c.args.contract.now.number c.args.groups.now c.requires.few c.requires.small in
     let own = demand_by (kwh_read (g.S.MeterSource.read c.args.source.now)) c.args.places.now c.args.contract.now.multiplier (of_contract c.args.contract.now.number) in
     record {
-      value = ap (λ n. n + c.total.result) c.demand-of-own.ensures.value ∙ ap (λ n. own + n) c.total.ensures;
-      within = omega (arith, most, c.total.ensures, c.demand-of-own.ensures.within);
+      value = ap (λ n. n + c.total.result) c.demand_of-own.ensures.value ∙ ap (λ n. own + n) c.total.ensures;
+      within = omega (arith, most, c.total.ensures, c.demand_of-own.ensures.within);
     }

@@ -6,6 +6,6 @@ use Rattle.sheet.proofs.writing.put_signed.Goals as goal
 
 pub returns : goal.returns
 returns c =
-    let size = simp (to_z-of_z, c.ranges.n) at c.unsigned-abs-magnitude.ensures.value in
+    let size = simp (to_z-of_z, c.ranges.n) at c.unsigned_abs-magnitude.ensures.value in
     let below = simp (to_z-of_z, c.ranges.n) at c.if-n-ge0.false in
-    put_is (ap (λ m. 45 ∷ decimal m) size ∙ spell_negative c.args.n below) (put_then _ _ c.put-next.ensures c.put-natural-2.ensures)
+    put_is (ap (λ m. 45 ∷ decimal m) size ∙ spell_negative c.args.n below) (put_then _ _ c.put-next.ensures c.put_natural-2.ensures)

@@ -15,9 +15,9 @@ unfolding counted
 returns c =
     let groups = listed c.args.self.now.groups in
     let shares = listed c.args.self.now.shares in
-    let g = c.as-slice-groups.ensures in
-    let own = c.contract-of-group.ensures ∙ ap (λ gs. contract_of_group gs c.args.group) g in
-    c.count-shares.ensures
-    ∙ ap (λ gs. counted gs c.contract-of-group.result c.as-slice.result.now) g
-    ∙ ap (λ n. counted groups n c.as-slice.result.now) own
-    ∙ ap (counted groups (contract_of_group groups c.args.group)) c.as-slice.ensures
+    let g = c.as_slice-groups.ensures in
+    let own = c.contract_of_group.ensures ∙ ap (λ gs. contract_of_group gs c.args.group) g in
+    c.count_shares.ensures
+    ∙ ap (λ gs. counted gs c.contract_of_group.result c.as_slice.result.now) g
+    ∙ ap (λ n. counted groups n c.as_slice.result.now) own
+    ∙ ap (counted groups (contract_of_group groups c.args.group)) c.as_slice.ensures

@@ -13,7 +13,7 @@ returns-in-Ok c =
     ap (refusal_at f c.args.kind c.args.number c.args.kwh) (sym is) ∙ granted (key_refusal f c.args.kind c.args.number c.args.kwh c.in-Some.key) c.in-Ok.ensures in
     record {
       told = sym (ap (λ o. answer o tt) none);
-      left = left_granted _ f (result_filed f c.args.contract c.args.direction c.args.kind c.args.number c.args.kwh) _ none (c.agree-line.ensures ∙ ap (λ o. agreed_at f o c.args.kwh) is);
+      left = left_granted _ f (result_filed f c.args.contract c.args.direction c.args.kind c.args.number c.args.kwh) _ none (c.agree_line.ensures ∙ ap (λ o. agreed_at f o c.args.kwh) is);
     }
 
 pub returns-in-Err : goal.returns-in-Err

@@ -5,7 +5,7 @@ use Rattle.book.specs.View.{filed}
 use Rattle.book.proofs.Room.{room_left}
 use Rattle.book.proofs.filings.Filings.put_share.Goals as goal
 
-pub file-row-requires : goal.file-row-requires
-file-row-requires c =
+pub file_row-requires : goal.file_row-requires
+file_row-requires c =
     let f = filed c.args.self.now in
     (lit< tt, room_left (is_share c.args.key) f.shares 256 (leb 64 (shares_of_contract f (contract_of_group f.groups c.args.key.group))) c.requires)
