@@ -1,9 +1,9 @@
 -- Supplied and imbalance together, under both methods.
-use Rattle.std.proofs.Common.{◌≡◌, ℕ, ◌-◌, ◌<◌, ◌≤◌, Bool, true, false, cond, ltb, ℤ, pos, ◌+ℤ◌, ◌-ℤ◌, refl, arith, ltb-false, ltb-true}
+use Rattle.std.proofs.Common.{◌≡◌, ℕ, ◌-◌, Bool, true, false, cond, ltb, ℤ, pos, ◌+ℤ◌, ◌-ℤ◌, refl, arith, ltb-false, ltb-true}
 use Rattle.std.proofs.lemmas.Int.{ints}
 use Rattle.terms.specs.declared.codes.Method.TheVariants.{One, Two}
 use Rattle.curtailment.specs.declared.methods.Settled.{Settled}
-use Rattle.curtailment.specs.Methods.{figures, settled_by, MethodsAgreeInSum}
+use Rattle.curtailment.specs.Methods.{figures, MethodsAgreeInSum}
 
 abbrev pub Together : ℕ → ℤ → ℕ → Settled → Type 0
 Together plan deemed used x = pos x.supplied +ℤ x.imbalance ≡ deemed +ℤ pos used -ℤ pos plan

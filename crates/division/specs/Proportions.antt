@@ -1,11 +1,11 @@
 -- The two laws of the pro rata rule, how near its parts are, and the steps of its loops.
-use Rattle.std.specs.Prelude.{◌≡◌, ℕ, zero, suc, ◌+◌, ◌-◌, ◌*◌, ◌/◌, ◌%◌, ◌<◌, ◌≤◌, min, List, [], ◌∷◌, ◌++◌, map, length, sum, slice_index, slice_index_or, slice_set, refl}
-use Rattle.std.proofs.Common.{sym, ap, ◌∙◌, inl, inr, arith, mul-add, mul-suc, mul-zero, mul_comm, mul-le-mul_left, mul-one}
+use Rattle.std.specs.Prelude.{◌≡◌, ℕ, zero, suc, ◌+◌, ◌-◌, ◌*◌, ◌/◌, ◌<◌, ◌≤◌, List, [], ◌∷◌, map, length, sum, slice_index, slice_index_or, slice_set, refl}
+use Rattle.std.proofs.Common.{sym, ap, ◌∙◌, arith, mul-add, mul-suc, mul-zero, mul_comm, mul-le-mul_left, mul-one}
 use Rattle.std.proofs.Math.Nat.{div-add-mod, le_of_mul-le-mul_left, lt_of_mul-lt-mul_left}
 use Rattle.std.proofs.lemmas.Nat.{mod_below}
 use Rattle.std.proofs.lemmas.Bool.Decides.{nat_tests}
-use Rattle.std.proofs.lemmas.List.{take_more, take_more_set, get_or-map, take_all, length-map}
-use Rattle.division.specs.Rules.{counted, basis, rounded_down, floors, topped, pro_rata}
+use Rattle.std.proofs.lemmas.List.{get_or-map, length-map}
+use Rattle.division.specs.Rules.{counted, basis, floors, topped, pro_rata}
 use Rattle.division.specs.Nearness.{EachWithinOne}
 use Rattle.tables.proofs.Carrying.{sum-cons}
 

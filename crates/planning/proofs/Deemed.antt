@@ -10,7 +10,6 @@ use Rattle.terms.specs.declared.records.GroupSort.{GroupSort}
 use Rattle.terms.specs.declared.records.GroupSort.TheVariants.{Generation, Curtailment}
 use Rattle.terms.specs.declared.records.Share.{Share}
 use Rattle.terms.specs.Plans.{plan_in, plan_of, claim_in}
-use Rattle.sharing.specs.Levels.{Apart, claim_of}
 use Rattle.sharing.proofs.Levelling.{claimed-within}
 use Rattle.planning.specs.Plans.{Limits, group_claims}
 

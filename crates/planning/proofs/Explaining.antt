@@ -1,12 +1,11 @@
 -- The lines of a working show the division: claims, parts rounded down, the kWh left over, the parts and their sum.
-use Rattle.std.proofs.Common.{◌≡◌, ℕ, zero, suc, ◌+◌, ◌<◌, ◌≤◌, Bool, true, false, cond, eqb, ltb, List, [], ◌∷◌, map, length, get_or, drop, ℤ, pos, nat_abs, sum, sym, refl, ap, ◌∙◌, subst, arith}
+use Rattle.std.proofs.Common.{◌≡◌, ℕ, zero, suc, ◌+◌, ◌<◌, ◌≤◌, Bool, true, false, cond, eqb, ltb, List, [], ◌∷◌, map, length, get_or, drop, ℤ, pos, nat_abs, sum, sym, refl, ap, ◌∙◌, arith}
 use mathlib.Core.List.{map-map}
 use Rattle.std.specs.List.{AllByRecursion as All}
 use Rattle.std.proofs.ByRecursion.{All-get_or}
 use Rattle.std.proofs.lemmas.List.{map-id, length-map, get_or-map, nil_from_length}
-use Rattle.std.proofs.lemmas.Bool.{cond-true, cond-false}
 use Rattle.std.proofs.lemmas.Bool.Decides.{nat_tests}
-use Rattle.tables.specs.Carried.{carried_if, claims_of}
+use Rattle.tables.specs.Carried.{carried_if}
 use Rattle.tables.proofs.Carrying.{carried_everyone}
 use Rattle.division.specs.Rules.{rounded_down, floors, topped, left_over, pro_rata}
 use Rattle.division.specs.Signed.{with_sign, signed_parts}

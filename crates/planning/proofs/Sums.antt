@@ -1,5 +1,5 @@
 -- Groups come to their contract's sales less purchases, and shares to their group's part.
-use Rattle.std.proofs.Common.{◌≡◌, get_or, pos, ap, ◌∙◌}
+use Rattle.std.proofs.Common.{get_or, pos, ap, ◌∙◌}
 use Rattle.terms.specs.declared.records.Group.{Group}
 use Rattle.terms.specs.declared.records.Share.{Share}
 use Rattle.terms.specs.Plans.{claim_in}

@@ -8,7 +8,6 @@ use Rattle.terms.specs.declared.records.Line.{Line}
 use Rattle.terms.specs.declared.records.Share.{Share}
 use Rattle.trades.specs.Trades.{traded, lines_of}
 use Rattle.division.specs.Signed.{signed_parts}
-use Rattle.sharing.specs.Owners.{count_of, added_up}
 use Rattle.planning.specs.Plans.{group_claims, share_claims, plans_of_groups, plans_of_shares}
 
 -- The limits that the lines of a book keep: a figure of at most 2,000,000 kWh for each line, and at most 64 lines a contract.

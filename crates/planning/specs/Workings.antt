@@ -1,5 +1,5 @@
 -- The working of a pro rata division.
-use Rattle.std.specs.Prelude.{◌≡◌, ℕ, ◌<◌, ◌≤◌, Bool, false, cond, List, [], ◌∷◌, map, length, drop, ℤ, ◌==◌, nat_lt, slice_index, slice_index_or, unsigned_abs}
+use Rattle.std.specs.Prelude.{◌≡◌, ℕ, ◌<◌, ◌≤◌, false, cond, List, [], ◌∷◌, map, length, drop, ℤ, ◌==◌, nat_lt, slice_index, slice_index_or, unsigned_abs}
 use Rattle.division.specs.Rules.{rounded_down, floors, left_over, pro_rata}
 use Rattle.division.specs.Signed.{signed_parts}
 use Rattle.tables.specs.Carried.{claims_of}

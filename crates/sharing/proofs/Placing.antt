@@ -1,5 +1,5 @@
 -- Where the parts of one owner's rows stand after a whole is shared out, and what they come to, from the rule's terms alone.
-use Rattle.std.proofs.Common.{◌≡◌, ℕ, zero, suc, ◌+◌, ◌<◌, ◌≤◌, Bool, true, false, cond, eqb, List, [], ◌∷◌, map, length, get_or, take, drop, ℤ, pos, negsuc, ◌+ℤ◌, neg_ℤ, nat_abs, sum, sym, refl, ap, ◌∙◌, subst, arith}
+use Rattle.std.proofs.Common.{◌≡◌, ℕ, zero, suc, ◌+◌, ◌<◌, ◌≤◌, Bool, true, false, cond, eqb, List, [], ◌∷◌, map, length, get_or, drop, ℤ, pos, negsuc, ◌+ℤ◌, neg_ℤ, nat_abs, sum, sym, refl, ap, ◌∙◌, subst, arith}
 use Rattle.std.specs.List.{AllByRecursion as All}
 use Rattle.std.proofs.lemmas.List.{length-map}
 use Rattle.std.proofs.ByRecursion.{All-map, All-weaker}

@@ -1,6 +1,6 @@
 -- The steps of the loops that gather an owner's claims and give the owner's rows their parts.
 use Rattle.std.proofs.Common.{◌≡◌, ℕ, ◌+◌, ◌<◌, ◌≤◌, Bool, true, false, cond, eqb, List, [], ◌∷◌, ◌++◌, length, get_or, take, drop, set, ℤ, pos, sym, refl, ap, ◌∙◌, arith}
-use Rattle.std.proofs.lemmas.List.{at_drop_more, at_drop_all, drop_more, drop-drop, get_or-drop, get_or_default, take_more, take_more_set, append_assoc, append-nil, drop-set-lt, take_all, drop_all}
+use Rattle.std.proofs.lemmas.List.{at_drop_more, drop_more, drop-drop, get_or-drop, get_or_default, take_more, take_more_set, append_assoc, append-nil, drop-set-lt, take_all, drop_all}
 use Rattle.std.proofs.lemmas.Bool.{eq-eqb, ne_eqb, cond-true, cond-false}
 use Rattle.tables.specs.Carried.{claims_of}
 use Rattle.tables.proofs.Carrying.{carried_yes, carried_no, carried_end}

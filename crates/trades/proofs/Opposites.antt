@@ -1,10 +1,10 @@
 -- Opposite lines get the same corrected figure, and a line without an opposite zero.
-use Rattle.std.proofs.Common.{◌≡◌, ℕ, ◌≤◌, min, Bool, true, false, not, ◌&&◌, eqb, List, [], ◌∷◌, Some, None, sym, refl, ap, ◌∙◌, arith}
+use Rattle.std.proofs.Common.{◌≡◌, ℕ, ◌≤◌, min, true, false, not, ◌&&◌, eqb, List, [], ◌∷◌, Some, sym, refl, ap, ◌∙◌, arith}
 use Rattle.std.specs.List.{AllByRecursion as All}
 use Rattle.std.proofs.ByRecursion.{All-weaker}
 use Rattle.std.proofs.lemmas.Bool.{and_parts, and_from, both_ways, eqb-true, eq-eqb}
 use Rattle.tables.specs.Keys.{first_of, count_if}
-use Rattle.tables.specs.Apart.{has, apart}
+use Rattle.tables.specs.Apart.{apart}
 use Rattle.tables.proofs.Apartness.{count_apart, found-is, found_none}
 use Rattle.terms.specs.declared.codes.Direction.{Direction}
 use Rattle.terms.specs.declared.codes.Direction.TheVariants.{Sale, Purchase}

@@ -1,5 +1,5 @@
 -- What a contract's lines come to at most.
-use Rattle.std.proofs.Common.{◌≡◌, ℕ, ◌≤◌, true, not, ◌&&◌, eqb, List, arith}
+use Rattle.std.proofs.Common.{ℕ, ◌≤◌, not, eqb, List, arith}
 use Rattle.std.specs.List.{AllByRecursion as All}
 use Rattle.std.proofs.lemmas.Bool.{and_parts}
 use Rattle.tables.specs.Keys.{count_if}

@@ -1,5 +1,5 @@
 -- Corrected trades: the figure of each line, and what a contract sold and bought.
-use Rattle.std.specs.Prelude.{ℕ, min, Bool, true, false, not, ◌&&◌, List, [], ◌∷◌, Some, None, sum, Option, ◌==◌, nat_eq}
+use Rattle.std.specs.Prelude.{ℕ, min, Bool, true, false, not, ◌&&◌, List, Some, None, sum, Option, ◌==◌, nat_eq}
 use Rattle.tables.specs.Keys.{first_of, count_if}
 use Rattle.tables.specs.Figures.{figures_if}
 use Rattle.terms.specs.declared.codes.Direction.{Direction}

@@ -3,7 +3,6 @@ use Rattle.std.specs.Prelude.{◌≡◌, ℕ, List, [], ◌∷◌, ◌++◌, map
 use Rattle.terms.specs.declared.codes.Method.{Method}
 use Rattle.terms.specs.declared.codes.Method.TheVariants.{One, Two}
 use Rattle.division.specs.Rules.{pro_rata, ranked}
-use Rattle.metering.specs.declared.register.RegisterRow.{RegisterRow}
 use Rattle.metering.specs.Readings.{register_reading}
 use Rattle.curtailment.specs.Methods.{settled_by}
 use Rattle.curtailment.specs.Retail.{retail_imbalance}

@@ -1,4 +1,4 @@
-use Rattle.std.proofs.Common.{◌≡◌, sum, sym, refl, ap, ◌∙◌, arith}
+use Rattle.std.proofs.Common.{sum, refl, ap, ◌∙◌, arith}
 use Rattle.tables.proofs.Carrying.{carried_all}
 use Rattle.division.proofs.Admitting.{admitted_divisible, too_heavy}
 use Rattle.division.proofs.admitted.Goals as goal

@@ -1,4 +1,4 @@
-use Rattle.std.proofs.Common.{◌≡◌, ℕ, ◌-◌, ◌<◌, ◌≤◌, List, length, sum, sym, refl, ap, ◌∙◌, subst, arith}
+use Rattle.std.proofs.Common.{◌≡◌, ℕ, ◌-◌, List, length, sum, sym, ap, ◌∙◌, subst, arith}
 use Rattle.tables.proofs.Carrying.{carried_all}
 use Rattle.division.specs.Rules.{floors, topped, pro_rata}
 use Rattle.division.specs.Nearness.{EachWithinOne}

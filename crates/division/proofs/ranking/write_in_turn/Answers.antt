@@ -1,5 +1,4 @@
-use Rattle.std.proofs.Common.{◌≡◌, ◌+◌, ◌-◌, ◌<◌, min, ◌++◌, length, get_or, take, drop, set, sym, ap, ◌∙◌, arith}
-use Rattle.division.specs.Rules.{ranked}
+use Rattle.std.proofs.Common.{◌≡◌, ◌-◌, length, arith}
 use Rattle.division.proofs.Admitting.{admits}
 use Rattle.division.specs.Turns.{ranked_more, ranked_last}
 use Rattle.division.proofs.ranking.write_in_turn.Goals as goal

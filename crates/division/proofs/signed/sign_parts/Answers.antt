@@ -1,4 +1,4 @@
-use Rattle.std.proofs.Common.{◌≡◌, get_or, ap, ◌∙◌, arith, w64, to_z, of_z}
+use Rattle.std.proofs.Common.{ap, ◌∙◌, arith, w64, to_z, of_z}
 use Rattle.std.proofs.ByRecursion.{All-get_or}
 use Rattle.tables.proofs.Writing.{written_more, written_all}
 use Rattle.division.specs.Signed.{with_sign, signed_parts}

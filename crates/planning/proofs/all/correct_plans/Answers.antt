@@ -1,4 +1,4 @@
-use Rattle.std.proofs.Common.{◌≡◌, get_or, sym, ◌∙◌, arith}
+use Rattle.std.proofs.Common.{get_or, ◌∙◌, arith}
 use Rattle.std.proofs.lemmas.List.{get_or_default}
 use Rattle.terms.specs.declared.codes.Kind.TheVariants.{Generation}
 use Rattle.terms.specs.declared.records.Contract.{Contract}

@@ -1,4 +1,3 @@
-use Rattle.std.proofs.Common.{◌≡◌, length}
 use Rattle.planning.proofs.Everyone.{Done}
 use Rattle.planning.proofs.all.correct_plans.Given as goal
 

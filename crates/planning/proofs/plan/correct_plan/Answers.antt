@@ -1,4 +1,4 @@
-use Rattle.std.proofs.Common.{◌≡◌, ◌≤◌, ℤ, nat_abs, sym, ap, ◌∙◌, subst, arith}
+use Rattle.std.proofs.Common.{◌≤◌, ℤ, nat_abs, sym, ◌∙◌, subst, arith}
 use Rattle.division.proofs.Signs.{back}
 use Rattle.planning.proofs.Deemed.{apart-small, shares-light, claims-light}
 use Rattle.planning.proofs.plan.correct_plan.Goals as goal

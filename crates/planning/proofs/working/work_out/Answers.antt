@@ -1,4 +1,4 @@
-use Rattle.std.proofs.Common.{◌≡◌, List, map, length, ℤ, nat_abs, sum, sym, refl, ap, ◌∙◌, subst, arith, w64, to_z, of_z}
+use Rattle.std.proofs.Common.{List, map, length, ℤ, nat_abs, sum, sym, refl, ap, ◌∙◌, subst, arith, w64, to_z, of_z}
 use Rattle.tables.specs.Listed.{listed}
 use Rattle.division.specs.Signed.{with_sign}
 use Rattle.division.proofs.Signs.{back}

@@ -1,4 +1,4 @@
-use Rattle.std.proofs.Common.{◌≡◌, length, nat_abs, sum, sym, ap, ◌∙◌, arith}
+use Rattle.std.proofs.Common.{length, nat_abs, sum, ap, ◌∙◌, arith}
 use Rattle.terms.specs.declared.records.Group.{Group}
 use Rattle.terms.specs.declared.records.Share.{Share}
 use Rattle.terms.specs.Plans.{claim_in}

@@ -1,4 +1,4 @@
-use Rattle.std.proofs.Common.{◌≡◌, ◌+◌, ◌<◌, ◌≤◌, length, get_or, drop, ℤ, pos, nat_abs, sym, ap, ◌∙◌, subst, arith}
+use Rattle.std.proofs.Common.{◌+◌, ◌<◌, length, get_or, drop, pos, nat_abs, sym, ap, ◌∙◌, arith}
 use Rattle.sharing.specs.Owners.{shared}
 use Rattle.sharing.specs.Levels.{figures_of_members}
 use Rattle.division.proofs.Signs.{back-small}

@@ -1,7 +1,6 @@
-use Rattle.std.proofs.Common.{◌≡◌, ◌<◌, length, get_or, drop, pos, sym, refl, ap, ◌∙◌, arith, w64, SFits, to_z, of_z, rules}
+use Rattle.std.proofs.Common.{◌≡◌, ◌<◌, length, get_or, drop, pos, sym, ◌∙◌, arith, w64, SFits, to_z, of_z, rules}
 use Rattle.division.proofs.Signs.{back}
 use Rattle.sharing.proofs.Steps.{count_yes, count_no, scatter_yes, scatter_no, scatter_all}
-use Rattle.sharing.proofs.rows.scatter.Given as given
 use Rattle.sharing.proofs.rows.scatter.Goals as goal
 use Rattle.sharing.proofs.rows.scatter.Goals.{then-owner, else-owner}
 

@@ -1,4 +1,4 @@
-use Rattle.std.proofs.Common.{◌≡◌, length, nat_abs, sum, sym, ap, ◌∙◌, arith, w64, to_z, of_z}
+use Rattle.std.proofs.Common.{length, nat_abs, sum, ap, ◌∙◌, arith, w64, to_z, of_z}
 use Rattle.division.specs.Terms.{Keeps}
 use Rattle.division.proofs.Signs.{back}
 use Rattle.sharing.proofs.Steps.{length-claims, count_within}

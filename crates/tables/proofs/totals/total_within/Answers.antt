@@ -1,4 +1,4 @@
-use Rattle.std.proofs.Common.{◌≡◌, ℕ, Bool, true, false, sum, sym, ap, ◌∙◌, arith}
+use Rattle.std.proofs.Common.{◌≡◌, ℕ, Bool, sum, sym, ap, ◌∙◌, arith}
 use Rattle.tables.specs.declared.totals.Whose.{Whose}
 use Rattle.tables.specs.Carried.{counts}
 use Rattle.tables.proofs.Carrying.{sum_yes, carried_no, carried_end}

@@ -1,4 +1,4 @@
-use Rattle.std.proofs.Common.{◌≡◌, sum, ap, ◌∙◌, arith, lit<}
+use Rattle.std.proofs.Common.{sum, ap, ◌∙◌, arith, lit<}
 use Rattle.tables.proofs.Carrying.{carried_all}
 use Rattle.trades.proofs.Sums.{trades-few, traded-light}
 use Rattle.trades.proofs.balances.total_traded.Goals as goal
