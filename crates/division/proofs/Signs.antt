@@ -23,8 +23,8 @@ nat_abs-sign (negsuc n) zero = refl
 nat_abs-sign (negsuc n) (suc p) = refl
 
 -- each part is at most the whole
-pub parts-small : (ps : List ℕ) (w m : ℕ) → sum ps ≡ w → w ≤ m → All (λ p. p ≤ m) ps
-parts-small [] w m e h = tt
-parts-small (p ∷ ps) w m e h =
+pub parts_small : (ps : List ℕ) (w m : ℕ) → sum ps ≡ w → w ≤ m → All (λ p. p ≤ m) ps
+parts_small [] w m e h = tt
+parts_small (p ∷ ps) w m e h =
     let s = sum-cons p ps in
-    (omega arith, parts-small ps (sum ps) m refl (omega arith))
+    (omega arith, parts_small ps (sum ps) m refl (omega arith))

@@ -15,7 +15,7 @@ use Rattle.trades.specs.Trades.{traded}
 use Rattle.trades.proofs.Sums.{traded-light}
 use Rattle.division.specs.Terms.{Keeps}
 use Rattle.division.specs.Signed.{with_sign, signed_parts}
-use Rattle.division.proofs.Signs.{nat_abs-sign, parts-small}
+use Rattle.division.proofs.Signs.{nat_abs-sign, parts_small}
 use Rattle.sharing.specs.Levels.{claim_of}
 use Rattle.sharing.proofs.Steps.{length-claims}
 use Rattle.sharing.proofs.Placing.{own-figure, some-row}
@@ -34,7 +34,7 @@ own-small c ls fs t =
 
 signed_small : (rule : ℕ → List ℕ → List ℕ) → Keeps rule → (w : ℤ) (claims : List ℕ) → 1 ≤ length claims → nat_abs w ≤ 128000000 → All Small (signed_parts w (rule (nat_abs w) claims))
 signed_small rule keeps w claims some small =
-    let low : All (λ p. p ≤ 128000000) (rule (nat_abs w) claims) = parts-small (rule (nat_abs w) claims) (nat_abs w) 128000000 (keeps.all (nat_abs w) claims some) small in
+    let low : All (λ p. p ≤ 128000000) (rule (nat_abs w) claims) = parts_small (rule (nat_abs w) claims) (nat_abs w) 128000000 (keeps.all (nat_abs w) claims some) small in
     All-map Small (with_sign w) (rule (nat_abs w) claims) (All-weaker (λ p. p ≤ 128000000) (λ p. Small (with_sign w p)) (λ p q. omega (arith, nat_abs-sign w p)) (rule (nat_abs w) claims) low)
 
 module _ (first second : ℕ → List ℕ → List ℕ) (keeps : Keeps first) (contracts : List Contract) (lines : List Line) (figures : List ℕ) (trading : Trading lines figures) (groups : List Group) (shares : List Share)

@@ -49,23 +49,23 @@ module _ (first second : ℕ → List ℕ → List ℕ) (contracts : List Contra
         plans_of_groups c.number groups ga ≡ signed_parts (own_of c.number lines figures) (first (nat_abs (own_of c.number lines figures)) (group_claims c.number groups shares))
     pub share_parts : (j : ℕ) → j < n → (c : Contract) → c ≡ get_or contracts j c → (k : ℕ) (g : Group) → k < length groups → g ≡ get_or groups k g → g.contract ≡ c.number →
         plans_of_shares g.number shares sa ≡ signed_parts (get_or ga k (pos 0)) (second (nat_abs (get_or ga k (pos 0))) (share_claims g.number shares))
-    pub other-groups : (k : ℕ) (g : Group) → k < length groups → g ≡ get_or groups k g → ((j : ℕ) → j < n → (c : Contract) → c ≡ get_or contracts j c → c.number ≡ g.contract → ⊥) → get_or ga k (pos 0) ≡ get_or gb k (pos 0)
-    pub other-shares : (i : ℕ) (s : Share) → i < length shares → s ≡ get_or shares i s → All (λ g. g.number ≡ s.group → ⊥) groups → get_or sa i (pos 0) ≡ get_or sb i (pos 0)
+    pub other_groups : (k : ℕ) (g : Group) → k < length groups → g ≡ get_or groups k g → ((j : ℕ) → j < n → (c : Contract) → c ≡ get_or contracts j c → c.number ≡ g.contract → ⊥) → get_or ga k (pos 0) ≡ get_or gb k (pos 0)
+    pub other_shares : (i : ℕ) (s : Share) → i < length shares → s ≡ get_or shares i s → All (λ g. g.number ≡ s.group → ⊥) groups → get_or sa i (pos 0) ≡ get_or sb i (pos 0)
 
   pub done_none : (gb sb : List ℤ) → Done 0 gb gb sb sb
   done_none gb sb = record {
     group_parts = λ j h. absurd (omega arith);
     share_parts = λ j h. absurd (omega arith);
-    other-groups = λ k g h e a. refl;
-    other-shares = λ i s h e a. refl;
+    other_groups = λ k g h e a. refl;
+    other_shares = λ i s h e a. refl;
   }
 
   pub done_all : (n : ℕ) (gb ga sb sa : List ℤ) → n ≡ length contracts → Done n gb ga sb sa → PlansCorrected first second contracts lines figures groups shares gb ga sb sa
   done_all n gb ga sb sa h d = record {
     group_parts = λ j c l e. d.group_parts j (omega arith) c e;
     share_parts = λ j c l e. d.share_parts j (omega arith) c e;
-    other-groups = λ k g l e a. d.other-groups k g l e (λ j m c r q. All-get_or (λ x. x.number ≡ g.contract → ⊥) contracts j c (omega arith) a (ap (λ x. x.number) (sym r) ∙ q));
-    other-shares = d.other-shares;
+    other_groups = λ k g l e a. d.other_groups k g l e (λ j m c r q. All-get_or (λ x. x.number ≡ g.contract → ⊥) contracts j c (omega arith) a (ap (λ x. x.number) (sym r) ∙ q));
+    other_shares = d.other_shares;
   }
 
   -- one contract more
@@ -98,6 +98,6 @@ module _ (first second : ℕ → List ℕ → List ℕ) (contracts : List Contra
           let kept : get_or ga' k (pos 0) ≡ get_or ga k (pos 0) = step.heads_shared.others k g h r ne in
           shares_stay k g h r ne ∙ d.share_parts j l c e k g h r o ∙ sym (ap (λ (z : ℤ). signed_parts z (second (nat_abs z) (share_claims g.number shares))) kept))
           (λ c e k g h r o. step.parts k g h r (o ∙ sym (ap (λ (y : Contract). y.number) (one-read contracts n x c within read e))));
-      other-groups = λ k g h e a. step.heads_shared.others k g h e (λ z. a n (omega arith) x read (sym z)) ∙ d.other-groups k g h e (λ j l c r. a j (omega arith) c r);
-      other-shares = λ i s h e a. step.others i s h e (free_all (λ (q : Group). q.contract) (λ (q : Group). q.number) x.number s.group groups a) ∙ d.other-shares i s h e a;
+      other_groups = λ k g h e a. step.heads_shared.others k g h e (λ z. a n (omega arith) x read (sym z)) ∙ d.other_groups k g h e (λ j l c r. a j (omega arith) c r);
+      other_shares = λ i s h e a. step.others i s h e (free_all (λ (q : Group). q.contract) (λ (q : Group). q.number) x.number s.group groups a) ∙ d.other_shares i s h e a;
     }

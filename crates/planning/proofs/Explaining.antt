@@ -142,11 +142,11 @@ module _ {T : Type 0} (owned known : T → ℕ) (o : ℕ) (w : ℤ) (rows : List
 
   pub explained : (together : ℤ) → together ≡ with_sign w (sum (pro_rata (nat_abs w) cs)) → Explains w cs shown together
   explained together e = record {
-    claims-shown = show_claims;
-    floors-shown = show_floors;
-    parts-shown = show_parts;
+    claims_shown = show_claims;
+    floors_shown = show_floors;
+    parts_shown = show_parts;
     first_ones = show_extra;
-    sum-shown = e ∙ sym (signed_sum w (pro_rata (nat_abs w) cs)) ∙ sym (ap added_up show_parts);
+    sum_shown = e ∙ sym (signed_sum w (pro_rata (nat_abs w) cs)) ∙ sym (ap added_up show_parts);
     whole_divided = λ some. e ∙ ap (with_sign w) (sum_pro_rata (nat_abs w) cs some) ∙ own_sign w;
   }
 

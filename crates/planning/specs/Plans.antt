@@ -21,9 +21,9 @@ pub record Limits (groups : List Group) (shares : List Share) : Type 0 where
 -- The deemed plan among the contract's groups by the first rule, a generation group claiming what its shares planned together and a curtailment group its own plan,
 -- and each group's part among its shares by the second rule, by what they planned.
 abbrev pub PlanCorrected : (ℕ → List ℕ → List ℕ) → (ℕ → List ℕ → List ℕ) → ℕ → ℤ → List Group → List Share → List ℤ → List ℤ → List ℤ → List ℤ → Type 0
-PlanCorrected first second contract deemed groups shares groups-before groups-after shares-before shares-after =
+PlanCorrected first second contract deemed groups shares groups_before groups_after shares_before shares_after =
     SharedOnLevels first second (λ (g : Group). claim_in g.sort) (λ (g : Group). g.contract) (λ (g : Group). g.number) (λ (s : Share). s.group) (λ (s : Share). s.planned)
-    contract deemed groups shares groups-before groups-after shares-before shares-after
+    contract deemed groups shares groups_before groups_after shares_before shares_after
 
 -- What the contract's groups claim, in listed order: a generation group what its shares planned together, a curtailment group its own plan.
 abbrev pub group_claims : ℕ → List Group → List Share → List ℕ

@@ -30,11 +30,11 @@ names_of owned known owner rows = claims_of owned known owner rows
 -- A working explains a pro rata division of a whole among claims, line by line.
 pub record Explains (whole : ℤ) (claims : List ℕ) (lines : List Working) (together : ℤ) : Type 0 where
   -- the lines show the claims, the parts rounded down and the parts
-  pub claims-shown : map (λ (w : Working). w.claim) lines ≡ claims
-  pub floors-shown : map (λ (w : Working). w.floor) lines ≡ floors (unsigned_abs whole) claims
-  pub parts-shown : map (λ (w : Working). w.part) lines ≡ signed_parts whole (pro_rata (unsigned_abs whole) claims)
+  pub claims_shown : map (λ (w : Working). w.claim) lines ≡ claims
+  pub floors_shown : map (λ (w : Working). w.floor) lines ≡ floors (unsigned_abs whole) claims
+  pub parts_shown : map (λ (w : Working). w.part) lines ≡ signed_parts whole (pro_rata (unsigned_abs whole) claims)
   -- just the first claimants got a kWh left over, as many as there were kWh
   pub first_ones : (n : ℕ) → n < length claims → slice_index_or (map (λ (w : Working). w.extra) lines) n false ≡ nat_lt n (left_over (unsigned_abs whole) claims)
   -- the sum is that of the parts, and for one claim or more it is the whole
-  pub sum-shown : together ≡ added_up (map (λ (w : Working). w.part) lines)
+  pub sum_shown : together ≡ added_up (map (λ (w : Working). w.part) lines)
   pub whole_divided : 1 ≤ length claims → together ≡ whole

@@ -220,7 +220,7 @@ module _ (first second : ℕ → List ℕ → List ℕ) (keeps : Keeps first) (f
       ap (λ z. z +ℤ added_by (retail_own f.lines (trades f)) f.contracts) (sym (partition (λ (c : Contract) (g : Group). eqb g.contract c.number) (λ x. x) f.contracts f.groups parts l w.group_contracts))
       ∙ sym (added-both parts_of (retail_own f.lines (trades f)) f.contracts)
       ∙ added_ext (λ (c : Contract). parts_of c +ℤ retail_own f.lines (trades f) c) own_trades f.contracts each
-      ∙ trades_cancel f.contracts f.lines w.lines-apart w.line_contracts
+      ∙ trades_cancel f.contracts f.lines w.lines_apart w.line_contracts
     where
       has-groups : Contract → Type 0
       has-groups c = Grouped c.kind (count_of (λ (g : Group). g.contract) c.number f.groups)

@@ -59,7 +59,7 @@ Retailed contracts (Curtailing c) = count_if (λ (k : Contract). is_retail k.kin
 
 -- What filing and closing see to: keys apart, owners known, and nobody without what belongs to him.
 pub record WellFiled (f : Filed) : Type 0 where
-  pub lines-apart : apart same_line f.lines ≡ true
+  pub lines_apart : apart same_line f.lines ≡ true
   pub line_contracts : Known (λ (c : Contract). c.number) (λ (l : Line). l.contract) f.contracts f.lines
   pub group_contracts : Known (λ (c : Contract). c.number) (λ (g : Group). g.contract) f.contracts f.groups
   pub contract_groups : All (λ c. Grouped c.kind (count_of (λ (g : Group). g.contract) c.number f.groups)) f.contracts

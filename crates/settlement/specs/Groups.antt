@@ -63,8 +63,8 @@ SoundSort (Curtailing c) = (c.plan ≤ c.baseline) × (c.baseline ≤ 2000000)
 -- What a book keeps of groups and of what was worked out for them and their shares.
 pub record Groupable (groups : List Group) (parts : List ℤ) (shares : List Share) (allotted : List ℕ) : Type 0 where
   pub sound : All (λ g. SoundSort g.sort) groups
-  pub parts-room : length parts ≡ length groups
-  pub parts-small : All (λ z. unsigned_abs z ≤ 128000000) parts
-  pub few-shares : length shares ≤ 256
-  pub output-room : length allotted ≡ length shares
-  pub output-small : All (λ x. x ≤ 2000000) allotted
+  pub parts_room : length parts ≡ length groups
+  pub parts_small : All (λ z. unsigned_abs z ≤ 128000000) parts
+  pub few_shares : length shares ≤ 256
+  pub output_room : length allotted ≡ length shares
+  pub output_small : All (λ x. x ≤ 2000000) allotted

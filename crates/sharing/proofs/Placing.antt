@@ -9,7 +9,7 @@ use Rattle.tables.specs.Carried.{claims_of}
 use Rattle.tables.proofs.Carrying.{sum-cons}
 use Rattle.division.specs.Signed.{with_sign, signed_parts}
 use Rattle.division.specs.Terms.{Keeps}
-use Rattle.division.proofs.Signs.{nat_abs-sign, parts-small}
+use Rattle.division.proofs.Signs.{nat_abs-sign, parts_small}
 use Rattle.sharing.specs.Owners.{count_of, figures_of, added_up, placed, parts_for, shared, SharedOut}
 use Rattle.sharing.proofs.Steps.{length-claims}
 
@@ -131,7 +131,7 @@ module _ {T : Type 0} (rule : ℕ → List ℕ → List ℕ) (keeps : Keeps rule
   -- no part is larger than the whole
   all-within : 1 ≤ length claims → All (λ z. nat_abs z ≤ nat_abs w) parts
   all-within some =
-      let low : All (λ p. p ≤ nat_abs w) (rule (nat_abs w) claims) = parts-small (rule (nat_abs w) claims) (nat_abs w) (nat_abs w) (keeps.all (nat_abs w) claims some) (omega arith) in
+      let low : All (λ p. p ≤ nat_abs w) (rule (nat_abs w) claims) = parts_small (rule (nat_abs w) claims) (nat_abs w) (nat_abs w) (keeps.all (nat_abs w) claims some) (omega arith) in
       All-map (λ (z : ℤ). nat_abs z ≤ nat_abs w) (with_sign w) (rule (nat_abs w) claims) (All-weaker (λ p. p ≤ nat_abs w) (λ p. nat_abs (with_sign w p) ≤ nat_abs w) (λ p q. omega (arith, nat_abs-sign w p)) (rule (nat_abs w) claims) low)
 
   module _ (xs : List ℤ) where

@@ -6,8 +6,8 @@ use super::Table;
 impl<T: Copy, const N: usize> Table<T, N> {
     // A table with no row listed; the blank row fills the places.
     pub fn new(blank: T) -> Table<T, N>
-        ensures result_value { listed result ≡ [] }
-        ensures result_value_2 { places result ≡ replicate N blank }
+        ensures empty { listed result ≡ [] }
+        ensures blank { places result ≡ replicate N blank }
     {
         Table {
             rows: [blank; N],
@@ -56,8 +56,8 @@ impl<T: Copy, const N: usize> Table<T, N> {
 
     // The blank row fills every place, also those of rows that were listed, and no row is listed: as a new table.
     pub fn wipe(&mut self, blank: T)
-        ensures self_after { listed self.new ≡ [] }
-        ensures self_after_2 { places self.new ≡ replicate N blank }
+        ensures empty { listed self.new ≡ [] }
+        ensures blank { places self.new ≡ replicate N blank }
     {
         self.len = 0;
         for place in self.rows.iter_mut() {

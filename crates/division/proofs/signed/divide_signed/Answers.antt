@@ -1,7 +1,7 @@
 use Rattle.std.proofs.Common.{ℕ, ◌≤◌, List, length, sym, ap, ◌∙◌, subst}
 use Rattle.std.specs.List.{AllByRecursion as All}
 use Rattle.division.proofs.Admitting.{admits}
-use Rattle.division.proofs.Signs.{parts-small}
+use Rattle.division.proofs.Signs.{parts_small}
 use Rattle.division.proofs.signed.divide_signed.Goals as goal
 
 pub sign_parts-requires : goal.sign_parts-requires
@@ -15,5 +15,5 @@ sign_parts-requires g c =
     let P : List ℕ → Type 0 = λ l. All (λ p. p ≤ 128000000) l in
     record {
       room = c.if-into-claims.false ∙ sym (ap length e.1 ∙ met.each rule m cs);
-      small = subst P (sym e.1) (parts-small (g.R.DivisionRule.parts rule m cs) m 128000000 (met.all rule m cs a.some) a.small);
+      small = subst P (sym e.1) (parts_small (g.R.DivisionRule.parts rule m cs) m 128000000 (met.all rule m cs a.some) a.small);
     }

@@ -22,4 +22,4 @@ returns g c =
     let i = c.loop-place.place-index in
     let past : length items ≤ i = omega arith in
     let all : i ≡ g.row.N = omega arith in
-    (record { self_after = refl; self_after_2 = sym (take_all i items past) ∙ c.loop-place.invariant.1 ∙ ap (λ n. replicate n c.args.blank) all })
+    (record { empty = refl; blank = sym (take_all i items past) ∙ c.loop-place.invariant.1 ∙ ap (λ n. replicate n c.args.blank) all })
