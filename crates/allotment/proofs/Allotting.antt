@@ -1,7 +1,7 @@
 -- The allotted output of a plant's shares comes to its reading, and no share is allotted more.
 use Rattle.std.proofs.Common.{◌≡◌, ℕ, ◌+◌, ◌≤◌, Bool, true, false, cond, ◌&&◌, eqb, List, [], ◌∷◌, length, ℤ, sum, sym, refl, ap, ◌∙◌, arith}
 use lib.ListN.{length-map}
-use Rattle.std.specs.List.{AllByRecursion as All}
+use Rattle.std.specs.List.{AllByRecursion}
 use Rattle.std.proofs.ByRecursion.{All-weaker}
 use Rattle.std.proofs.lemmas.Bool.{and_parts, and_from, eqb-true, eq-eqb}
 use Rattle.tables.specs.Figures.{figures_if}
@@ -63,7 +63,7 @@ mine plant s t = is_at plant s && eqb t.rank s.rank
 
 module _ (plant : ℕ) (shares : List Share) (plans : List ℤ) (ranks : RanksApart shares) where
   -- each claim in turn is that of just one share
-  each-one : All (λ (t : Claim). count_if (λ (s : Share). mine plant s t) shares ≡ 1) (turns_at plant shares plans)
+  each-one : AllByRecursion (λ (t : Claim). count_if (λ (s : Share). mine plant s t) shares ≡ 1) (turns_at plant shares plans)
   each-one =
       All-weaker (λ (t : Claim). 1 ≤ count_if (of_rank t.rank) (claims_at plant shares plans)) (λ (t : Claim). count_if (λ (s : Share). mine plant s t) shares ≡ 1) one
       (turns_at plant shares plans) (turns-listed (claims_at plant shares plans) 1 99)

@@ -1,6 +1,6 @@
 -- The claims in turn: at most one of each rank, each of them listed, and together no more than the plans.
 use Rattle.std.proofs.Common.{◌≡◌, ℕ, zero, suc, ◌+◌, ◌<◌, ◌≤◌, Bool, true, false, cond, ◌&&◌, eqb, leb, List, [], ◌∷◌, map, length, ℤ, pos, negsuc, nat_abs, Some, None, sum, Option, sym, refl, subst, arith}
-use Rattle.std.specs.List.{AllByRecursion as All}
+use Rattle.std.specs.List.{AllByRecursion}
 use Rattle.std.proofs.lemmas.Bool.{both_ways, eqb-true, eqb-false, eq-eqb, leb-true, leb-false}
 use Rattle.tables.specs.Carried.{carried_if}
 use Rattle.tables.specs.Keys.{first_of, count_if}
@@ -74,13 +74,13 @@ module _ (claims : List Claim) where
           here false q = omega arith
 
   -- each has the rank of a claim that is listed
-  pub turns-listed : (rank n : ℕ) → All (λ (t : Claim). 1 ≤ count_if (of_rank t.rank) claims) (turns_from rank n claims)
+  pub turns-listed : (rank n : ℕ) → AllByRecursion (λ (t : Claim). 1 ≤ count_if (of_rank t.rank) claims) (turns_from rank n claims)
   unfolding turns_from
   turns-listed rank zero = tt
   turns-listed rank (suc n) = go (found rank) refl (turns-listed (rank + 1) n)
     where
-      go : (o : Option Claim) → found rank ≡ o → All (λ (t : Claim). 1 ≤ count_if (of_rank t.rank) claims) (turns_from (rank + 1) n claims) →
-          All (λ (t : Claim). 1 ≤ count_if (of_rank t.rank) claims) (before o (turns_from (rank + 1) n claims))
+      go : (o : Option Claim) → found rank ≡ o → AllByRecursion (λ (t : Claim). 1 ≤ count_if (of_rank t.rank) claims) (turns_from (rank + 1) n claims) →
+          AllByRecursion (λ (t : Claim). 1 ≤ count_if (of_rank t.rank) claims) (before o (turns_from (rank + 1) n claims))
       go None e more = more
       go (Some c) e more =
           let here = first_passes (of_rank rank) claims c e in
@@ -106,7 +106,7 @@ module _ (claims : List Claim) where
       go (Some c) e more = omega arith
 
 -- where claims have ranks from 1 to 99 and there is one, there is one in turn
-pub turns-some : (claims : List Claim) → All (λ (c : Claim). (1 ≤ c.rank) × (c.rank ≤ 99)) claims → 1 ≤ length claims → 1 ≤ length (in_turn claims)
+pub turns-some : (claims : List Claim) → AllByRecursion (λ (c : Claim). (1 ≤ c.rank) × (c.rank ≤ 99)) claims → 1 ≤ length claims → 1 ≤ length (in_turn claims)
 turns-some [] within some = absurd (omega arith)
 turns-some (c ∷ cs) within some = turns-held (c ∷ cs) c.rank 1 99 (counted (eqb c.rank c.rank) (eq-eqb c.rank c.rank refl)) within.0.0 (below c.rank within.0.1)
   where
@@ -185,12 +185,12 @@ module _ (plant : ℕ) where
       go false more = omega arith
 
   -- what holds of the ranks of shares holds of the ranks of claims
-  pub claims-ranked : (P : ℕ → Type 0) (shares : List Share) (plans : List ℤ) → All (λ (s : Share). P s.rank) shares → All (λ (c : Claim). P c.rank) (claims_at plant shares plans)
+  pub claims-ranked : (P : ℕ → Type 0) (shares : List Share) (plans : List ℤ) → AllByRecursion (λ (s : Share). P s.rank) shares → AllByRecursion (λ (c : Claim). P c.rank) (claims_at plant shares plans)
   claims-ranked P [] plans a = tt
   claims-ranked P (s ∷ ss) [] a = tt
   claims-ranked P (s ∷ ss) (x ∷ xs) a = go (eqb s.plant plant) (claims-ranked P ss xs a.1)
     where
-      go : (b : Bool) → All (λ (c : Claim). P c.rank) (claims_at plant ss xs) → All (λ (c : Claim). P c.rank) (cond b (claim_of s x ∷ claims_at plant ss xs) (claims_at plant ss xs))
+      go : (b : Bool) → AllByRecursion (λ (c : Claim). P c.rank) (claims_at plant ss xs) → AllByRecursion (λ (c : Claim). P c.rank) (cond b (claim_of s x ∷ claims_at plant ss xs) (claims_at plant ss xs))
       go true more = (a.0, more)
       go false more = more
 

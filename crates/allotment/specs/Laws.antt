@@ -1,6 +1,6 @@
 -- What allotted output comes to, from the rule's terms alone.
 use Rattle.std.specs.Prelude.{◌≡◌, ℕ, ◌≤◌, Bool, true, ◌&&◌, List, map, length, ℤ, sum, ◌==◌, unsigned_abs}
-use Rattle.std.specs.List.{AllByRecursion as All}
+use Rattle.std.specs.List.{AllByRecursion}
 use Rattle.tables.specs.Apart.{apart}
 use Rattle.tables.specs.Carried.{carried_if}
 use Rattle.tables.specs.Keys.{count_if}
@@ -14,7 +14,7 @@ same_turn s u = s.plant == u.plant && s.rank == u.rank
 
 -- Ranks run from 1 to 99, and no two shares have one rank at one plant.
 pub record RanksApart (shares : List Share) : Type 0 where
-  pub within : All (λ (s : Share). (1 ≤ s.rank) × (s.rank ≤ 99)) shares
+  pub within : AllByRecursion (λ (s : Share). (1 ≤ s.rank) × (s.rank ≤ 99)) shares
   pub apart : apart same_turn shares ≡ true
 
 -- The allotted output of a plant's shares comes to the plant's reading, where it has a share.

@@ -1,6 +1,6 @@
 -- Signed parts: what they fit, and how large they are.
 use Rattle.std.proofs.Common.{◌≡◌, ℕ, zero, suc, ◌≤◌, List, [], ◌∷◌, ℤ, pos, negsuc, nat_abs, sum, refl, arith, w64, SFits, to_z, of_z}
-use Rattle.std.specs.List.{AllByRecursion as All}
+use Rattle.std.specs.List.{AllByRecursion}
 use Rattle.std.proofs.lemmas.Int.{to_z-of_z}
 use Rattle.tables.proofs.Carrying.{sum-cons}
 use Rattle.division.specs.Signed.{with_sign}
@@ -23,7 +23,7 @@ nat_abs-sign (negsuc n) zero = refl
 nat_abs-sign (negsuc n) (suc p) = refl
 
 -- each part is at most the whole
-pub parts_small : (ps : List ℕ) (w m : ℕ) → sum ps ≡ w → w ≤ m → All (λ p. p ≤ m) ps
+pub parts_small : (ps : List ℕ) (w m : ℕ) → sum ps ≡ w → w ≤ m → AllByRecursion (λ p. p ≤ m) ps
 parts_small [] w m e h = tt
 parts_small (p ∷ ps) w m e h =
     let s = sum-cons p ps in

@@ -1,6 +1,6 @@
 // A whole that may be below zero, as a deemed plan may be: its magnitude is divided, and every part takes its sign.
 ghost use Rattle.std.specs.Prelude.{◌≡◌, ◌≤◌, length};
-ghost use Rattle.std.specs.List.{AllByRecursion as All};
+ghost use Rattle.std.specs.List.{AllByRecursion};
 ghost use Rattle.division.specs.Signed.{with_sign, signed_parts, DividedSigned};
 
 use crate::{DivisionRule, MOST_CLAIMS};
@@ -21,7 +21,7 @@ pub fn with_sign(whole: i64, part: u64) -> i64
 // Writes each part with the sign of its whole.
 fn sign_parts(whole: i64, parts: &[u64], into: &mut [i64])
     requires room { length into.old ≡ length parts.now }
-    requires small { All (λ p. p ≤ 128000000) parts.now }
+    requires small { AllByRecursion (λ p. p ≤ 128000000) parts.now }
     ensures { into.new ≡ signed_parts whole parts.now }
 {
     for i in 0..parts.len() {

@@ -1,6 +1,6 @@
 -- No group's part is larger than a contract's trades can be.
 use Rattle.std.proofs.Common.{◌≡◌, ℕ, ◌<◌, ◌≤◌, ◌⊎◌, List, [], ◌∷◌, length, get_or, ℤ, pos, nat_abs, sym, refl, ◌∙◌, subst, inl, inr, arith}
-use Rattle.std.specs.List.{AllByRecursion as All}
+use Rattle.std.specs.List.{AllByRecursion}
 use Rattle.std.proofs.ByRecursion.{All-get_or, All-from_get_or, All-map, All-weaker}
 use Rattle.std.proofs.lemmas.List.{get_or_default}
 use Rattle.std.proofs.lemmas.Bool.{cases_eq}
@@ -32,9 +32,9 @@ own-small : (c : ℕ) (ls : List Line) (fs : List ℕ) → Trading ls fs → nat
 own-small c ls fs t =
     apart-small (traded Sale c ls fs) (traded Purchase c ls fs) 128000000 (traded-light Sale c ls fs (t.allowed c) t.small) (traded-light Purchase c ls fs (t.allowed c) t.small)
 
-signed_small : (rule : ℕ → List ℕ → List ℕ) → Keeps rule → (w : ℤ) (claims : List ℕ) → 1 ≤ length claims → nat_abs w ≤ 128000000 → All Small (signed_parts w (rule (nat_abs w) claims))
+signed_small : (rule : ℕ → List ℕ → List ℕ) → Keeps rule → (w : ℤ) (claims : List ℕ) → 1 ≤ length claims → nat_abs w ≤ 128000000 → AllByRecursion Small (signed_parts w (rule (nat_abs w) claims))
 signed_small rule keeps w claims some small =
-    let low : All (λ p. p ≤ 128000000) (rule (nat_abs w) claims) = parts_small (rule (nat_abs w) claims) (nat_abs w) 128000000 (keeps.all (nat_abs w) claims some) small in
+    let low : AllByRecursion (λ p. p ≤ 128000000) (rule (nat_abs w) claims) = parts_small (rule (nat_abs w) claims) (nat_abs w) 128000000 (keeps.all (nat_abs w) claims some) small in
     All-map Small (with_sign w) (rule (nat_abs w) claims) (All-weaker (λ p. p ≤ 128000000) (λ p. Small (with_sign w p)) (λ p q. omega (arith, nat_abs-sign w p)) (rule (nat_abs w) claims) low)
 
 module _ (first second : ℕ → List ℕ → List ℕ) (keeps : Keeps first) (contracts : List Contract) (lines : List Line) (figures : List ℕ) (trading : Trading lines figures) (groups : List Group) (shares : List Share)
@@ -45,7 +45,7 @@ module _ (first second : ℕ → List ℕ → List ℕ) (keeps : Keeps first) (c
       let claimed : Group → ℕ = claim_of (λ (g : Group). claim_in g.sort) (λ (g : Group). g.number) (λ (s : Share). s.group) (λ (s : Share). s.planned) shares in
       let some : 1 ≤ length (group_claims c.number groups shares) = omega (arith, some-row (λ (g : Group). g.contract) c.number groups k g h r o, length-claims (λ (g : Group). g.contract) c.number claimed groups) in
       own-figure (λ (g : Group). g.contract) c.number Small groups ga room
-      (subst (All Small) (sym (done.group_parts j c l e)) (signed_small first keeps (own_of c.number lines figures) (group_claims c.number groups shares) some (own-small c.number lines figures trading)))
+      (subst (AllByRecursion Small) (sym (done.group_parts j c l e)) (signed_small first keeps (own_of c.number lines figures) (group_claims c.number groups shares) some (own-small c.number lines figures trading)))
       k g h r o
 
 one_of : (n : ℕ) → homed n → (n ≡ 11) ⊎ ((n ≡ 12) ⊎ (n ≡ 13))
@@ -59,8 +59,8 @@ one_of n h =
     ]
 
 pub all-parts-small : (first second : ℕ → List ℕ → List ℕ) → Keeps first → (x y z : Contract) → x.number ≡ 11 → y.number ≡ 12 → z.number ≡ 13 →
-    (lines : List Line) (figures : List ℕ) → Trading lines figures → (groups : List Group) (shares : List Share) → All (λ (g : Group). homed g.contract) groups →
-    (gb ga sb sa : List ℤ) → length ga ≡ length groups → PlansCorrected first second (x ∷ y ∷ z ∷ []) lines figures groups shares gb ga sb sa → All Small ga
+    (lines : List Line) (figures : List ℕ) → Trading lines figures → (groups : List Group) (shares : List Share) → AllByRecursion (λ (g : Group). homed g.contract) groups →
+    (gb ga sb sa : List ℤ) → length ga ≡ length groups → PlansCorrected first second (x ∷ y ∷ z ∷ []) lines figures groups shares gb ga sb sa → AllByRecursion Small ga
 all-parts-small first second keeps x y z ex ey ez lines figures trading groups shares homes gb ga sb sa room done = All-from_get_or Small ga (pos 0) at
   where
     at : (k : ℕ) → k < length ga → Small (get_or ga k (pos 0))

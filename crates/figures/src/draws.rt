@@ -1,6 +1,6 @@
 // The generator that every case is made with, and rows drawn one by one.
 ghost use Rattle.std.specs.Prelude.{◌≡◌, ◌^◌, ◌<◌, ◌≤◌, length};
-ghost use Rattle.std.specs.List.{AllByRecursion as All};
+ghost use Rattle.std.specs.List.{AllByRecursion};
 ghost use Rattle.figures.specs.Drawn.{stepped, mixed, drawn, figure};
 
 const FACTOR: u64 = 6_364_136_223_846_793_005;
@@ -82,7 +82,7 @@ pub trait DrawsRows<T> {
 
 // Draws every row, in order.
 pub fn fill<T: Drop, P: DrawsRows<T>>(pattern: &P, draws: &mut Draws, rows: &mut [T])
-    ensures { All (P.DrawsRows.fine pattern.now) rows.new }
+    ensures { AllByRecursion (P.DrawsRows.fine pattern.now) rows.new }
 {
     for i in 0..rows.len() {
         rows[i] = pattern.row(i, draws);

@@ -1,6 +1,6 @@
 // Plans on two levels: three contracts, five groups of both sorts and up to ten shares.
 ghost use Rattle.std.specs.Prelude.{◌≡◌, ◌+◌, ◌≤◌, length, unsigned_abs};
-ghost use Rattle.std.specs.List.{AllByRecursion as All};
+ghost use Rattle.std.specs.List.{AllByRecursion};
 ghost use Rattle.terms.specs.Plans.{plan_of};
 ghost use Rattle.sharing.specs.Levels.{Apart};
 ghost use Rattle.planning.specs.All.{Trading};
@@ -125,8 +125,8 @@ impl PlanPattern {
     // The five groups.
     fn groups(&self, draws: &mut Draws) -> [Group; GROUPS]
         ensures apart { Apart (λ (g : Group). g.number) result }
-        ensures homes { All (λ g. homed g.contract) result }
-        ensures plans { All (λ g. plan_of g ≤ 2000000) result }
+        ensures homes { AllByRecursion (λ g. homed g.contract) result }
+        ensures plans { AllByRecursion (λ g. plan_of g ≤ 2000000) result }
     {
         [
             self.group(0, draws),
@@ -174,10 +174,10 @@ fn correct<A: DivisionRule, B: DivisionRule>(
 )
     requires trading { Trading lines.now figures.now }
     requires limits { Limits groups.now shares.now }
-    requires homes { All (λ g. homed g.contract) groups.now }
+    requires homes { AllByRecursion (λ g. homed g.contract) groups.now }
     requires groups { length parts.old ≡ length groups.now }
     requires shares { length plans.old ≡ length shares.now }
-    ensures { All (λ p. unsigned_abs p ≤ 128000000) parts.new }
+    ensures { AllByRecursion (λ p. unsigned_abs p ≤ 128000000) parts.new }
 {
     let contracts = [
         contract(11, Kind::Generation),
@@ -203,10 +203,10 @@ fn correct_by(
 )
     requires trading { Trading lines.now figures.now }
     requires limits { Limits groups.now shares.now }
-    requires homes { All (λ g. homed g.contract) groups.now }
+    requires homes { AllByRecursion (λ g. homed g.contract) groups.now }
     requires groups { length parts.old ≡ length groups.now }
     requires shares { length plans.old ≡ length shares.now }
-    ensures { All (λ p. unsigned_abs p ≤ 128000000) parts.new }
+    ensures { AllByRecursion (λ p. unsigned_abs p ≤ 128000000) parts.new }
 {
     match (first, second) {
         (Rule::ProRata, Rule::ProRata) => correct(
@@ -240,8 +240,8 @@ fn show_group(rt: HostRuntime, group: &Group, plan: i64) -> io::Result<()> {
 // Every group with its plan.
 fn show_groups(rt: HostRuntime, groups: &[Group], parts: &[i64]) -> io::Result<()>
     requires room { length parts.now ≡ length groups.now }
-    requires filed { All (λ g. plan_of g ≤ 2000000) groups.now }
-    requires small { All (λ p. unsigned_abs p ≤ 128000000) parts.now }
+    requires filed { AllByRecursion (λ g. plan_of g ≤ 2000000) groups.now }
+    requires small { AllByRecursion (λ p. unsigned_abs p ≤ 128000000) parts.now }
 {
     for k in 0..groups.len() {
         let group = groups[k];
@@ -278,7 +278,7 @@ fn show_plans(
 ) -> io::Result<()>
     requires trading { Trading lines.now figures.now }
     requires limits { Limits groups.now shares.now }
-    requires homes { All (λ g. homed g.contract) groups.now }
+    requires homes { AllByRecursion (λ g. homed g.contract) groups.now }
     requires few { (length groups.now ≤ 5) × (length shares.now ≤ 10) }
 {
     let mut part_space = [0; GROUPS];

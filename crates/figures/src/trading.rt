@@ -1,6 +1,6 @@
 // Corrected trades among three contracts, the exchange and outside parties.
 ghost use Rattle.std.specs.Prelude.{◌≡◌, ◌<◌, ◌≤◌, false, length, ◌≢◌};
-ghost use Rattle.std.specs.List.{AllByRecursion as All};
+ghost use Rattle.std.specs.List.{AllByRecursion};
 ghost use Rattle.trades.specs.Trades.{faces};
 ghost use Rattle.planning.specs.All.{Trading};
 ghost use Rattle.figures.specs.Rows.{line_fine, homed};

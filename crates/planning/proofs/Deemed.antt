@@ -1,6 +1,6 @@
 -- Deemed plans, planned shares and claims of groups stay inside the limits of a division.
 use Rattle.std.proofs.Common.{ℕ, ◌+◌, ◌*◌, ◌≤◌, Bool, true, false, cond, eqb, List, [], ◌∷◌, length, pos, ◌-ℤ◌, nat_abs, sum_by, sum, suc-mul, arith}
-use Rattle.std.specs.List.{AllByRecursion as All}
+use Rattle.std.specs.List.{AllByRecursion}
 use Rattle.std.proofs.lemmas.Int.{ints}
 use Rattle.std.proofs.ByRecursion.{sum_by_le}
 use Rattle.tables.specs.Carried.{claims_of}
@@ -16,7 +16,7 @@ use Rattle.planning.specs.Plans.{Limits, group_claims}
 pub apart-small : (a b m : ℕ) → a ≤ m → b ≤ m → nat_abs (pos a -ℤ pos b) ≤ m
 apart-small a b m h k = omega (arith, ints)
 
-pub shares-light : (ss : List Share) → length ss ≤ 256 → All (λ s. s.planned ≤ 2000000) ss → sum_by (λ (s : Share). s.planned) ss ≤ 512000000
+pub shares-light : (ss : List Share) → length ss ≤ 256 → AllByRecursion (λ s. s.planned ≤ 2000000) ss → sum_by (λ (s : Share). s.planned) ss ≤ 512000000
 shares-light ss f p = omega (arith, sum_by_le (λ (s : Share). s.planned) 2000000 ss p)
 
 claim_within : (sort : GroupSort) (together : ℕ) → claim_in sort together ≤ together + plan_in sort
@@ -24,7 +24,7 @@ claim_within Generation together = omega arith
 claim_within (Curtailment c) together = omega arith
 
 -- what groups claim is no more than their shares and their own plans come to
-claims_split : (t : Group → ℕ) (c : ℕ) (gs : List Group) → All (λ g. plan_of g ≤ 2000000) gs →
+claims_split : (t : Group → ℕ) (c : ℕ) (gs : List Group) → AllByRecursion (λ g. plan_of g ≤ 2000000) gs →
     sum (claims_of (λ (g : Group). g.contract) (λ (g : Group). claim_in g.sort (t g)) c gs) ≤ sum (claims_of (λ (g : Group). g.contract) t c gs) + length gs * 2000000
 claims_split t c [] s = omega arith
 claims_split t c (g ∷ gs) s = go (eqb g.contract c) (claims_split t c gs s.1)

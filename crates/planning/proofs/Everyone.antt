@@ -1,6 +1,6 @@
 -- The plans of all contracts, one contract on: what is done for one leaves what was done for those before it.
 use Rattle.std.proofs.Common.{◌≡◌, ℕ, zero, suc, ◌+◌, ◌<◌, List, [], ◌∷◌, length, get_or, ℤ, pos, nat_abs, sym, refl, ap, ◌∙◌, subst, arith, below_more}
-use Rattle.std.specs.List.{AllByRecursion as All}
+use Rattle.std.specs.List.{AllByRecursion}
 use Rattle.std.proofs.ByRecursion.{All-get_or}
 use Rattle.std.proofs.lemmas.List.{get_or_default}
 use Rattle.terms.specs.declared.records.Contract.{Contract}
@@ -27,18 +27,18 @@ apart-at numbered (z ∷ zs) a (suc j) zero x y l h p q e = omega arith
 apart-at numbered (z ∷ zs) a (suc j) (suc n) x y l h p q e = apart-at numbered zs a.1 j n x y (omega arith) (omega arith) p q e
 
 -- a head of another owner shares its number with none of the owner's heads
-pub free_of : {H : Type 0} (owned numbered : H → ℕ) (o n : ℕ) (hs : List H) → Apart numbered hs → (k : ℕ) (h : H) → k < length hs → h ≡ get_or hs k h → n ≡ numbered h → (owned h ≡ o → ⊥) → All (λ g. owned g ≡ o → numbered g ≡ n → ⊥) hs
+pub free_of : {H : Type 0} (owned numbered : H → ℕ) (o n : ℕ) (hs : List H) → Apart numbered hs → (k : ℕ) (h : H) → k < length hs → h ≡ get_or hs k h → n ≡ numbered h → (owned h ≡ o → ⊥) → AllByRecursion (λ g. owned g ≡ o → numbered g ≡ n → ⊥) hs
 free_of owned numbered o n [] a k h lt e is ne = tt
 free_of owned numbered o n (g ∷ hs) a zero h lt e is ne = ((λ m z. ne (ap owned e ∙ m)), widen hs a.0)
   where
-    widen : (ks : List _) → All (λ k. numbered k ≡ numbered g → ⊥) ks → All (λ k. owned k ≡ o → numbered k ≡ n → ⊥) ks
+    widen : (ks : List _) → AllByRecursion (λ k. numbered k ≡ numbered g → ⊥) ks → AllByRecursion (λ k. owned k ≡ o → numbered k ≡ n → ⊥) ks
     widen [] b = tt
     widen (k ∷ ks) b = ((λ m z. b.0 (z ∙ is ∙ ap numbered e)), widen ks b.1)
 free_of owned numbered o n (g ∷ hs) a (suc k) h lt e is ne =
     ((λ m z. All-get_or (λ q. numbered q ≡ numbered g → ⊥) hs k h (omega arith) a.0 (ap numbered (sym e) ∙ sym is ∙ sym z)), free_of owned numbered o n hs a.1 k h (omega arith) e is ne)
 
 -- no head at any place has the number
-free_all : {H : Type 0} (owned numbered : H → ℕ) (o n : ℕ) (hs : List H) → All (λ g. numbered g ≡ n → ⊥) hs → All (λ g. owned g ≡ o → numbered g ≡ n → ⊥) hs
+free_all : {H : Type 0} (owned numbered : H → ℕ) (o n : ℕ) (hs : List H) → AllByRecursion (λ g. numbered g ≡ n → ⊥) hs → AllByRecursion (λ g. owned g ≡ o → numbered g ≡ n → ⊥) hs
 free_all owned numbered o n [] a = tt
 free_all owned numbered o n (h ∷ hs) a = ((λ m. a.0), free_all owned numbered o n hs a.1)
 
@@ -50,7 +50,7 @@ module _ (first second : ℕ → List ℕ → List ℕ) (contracts : List Contra
     pub share_parts : (j : ℕ) → j < n → (c : Contract) → c ≡ get_or contracts j c → (k : ℕ) (g : Group) → k < length groups → g ≡ get_or groups k g → g.contract ≡ c.number →
         plans_of_shares g.number shares sa ≡ signed_parts (get_or ga k (pos 0)) (second (nat_abs (get_or ga k (pos 0))) (share_claims g.number shares))
     pub other_groups : (k : ℕ) (g : Group) → k < length groups → g ≡ get_or groups k g → ((j : ℕ) → j < n → (c : Contract) → c ≡ get_or contracts j c → c.number ≡ g.contract → ⊥) → get_or ga k (pos 0) ≡ get_or gb k (pos 0)
-    pub other_shares : (i : ℕ) (s : Share) → i < length shares → s ≡ get_or shares i s → All (λ g. g.number ≡ s.group → ⊥) groups → get_or sa i (pos 0) ≡ get_or sb i (pos 0)
+    pub other_shares : (i : ℕ) (s : Share) → i < length shares → s ≡ get_or shares i s → AllByRecursion (λ g. g.number ≡ s.group → ⊥) groups → get_or sa i (pos 0) ≡ get_or sb i (pos 0)
 
   pub done_none : (gb sb : List ℤ) → Done 0 gb gb sb sb
   done_none gb sb = record {

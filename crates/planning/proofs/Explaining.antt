@@ -1,7 +1,7 @@
 -- The lines of a working show the division: claims, parts rounded down, the kWh left over, the parts and their sum.
 use Rattle.std.proofs.Common.{◌≡◌, ℕ, zero, suc, ◌+◌, ◌<◌, ◌≤◌, Bool, true, false, cond, eqb, ltb, List, [], ◌∷◌, map, length, get_or, drop, ℤ, pos, nat_abs, sum, sym, refl, ap, ◌∙◌, arith}
 use mathlib.Core.List.{map-map}
-use Rattle.std.specs.List.{AllByRecursion as All}
+use Rattle.std.specs.List.{AllByRecursion}
 use Rattle.std.proofs.ByRecursion.{All-get_or}
 use Rattle.std.proofs.lemmas.List.{map-id, length-map, get_or-map, nil_from_length}
 use Rattle.std.proofs.lemmas.Bool.Decides.{nat_tests}
@@ -54,13 +54,13 @@ module _ {T : Type 0} (owned known : T → ℕ) (o : ℕ) (line : ℕ → ℕ �
       go true f g = ap (λ y. y ∷ map shown (workings owned known o line rs (drop 1 cs) xs)) (is (known r) (get_or cs 0 0) x) ∙ ap (λ ys. known r ∷ ys) f
       go false f g = g
 
-  lines-all_are : (P : Working → Type 0) → ((k c : ℕ) (x : ℤ) → P (line k c x)) → (rows : List T) (cs : List ℕ) (xs : List ℤ) → All P (workings owned known o line rows cs xs)
+  lines-all_are : (P : Working → Type 0) → ((k c : ℕ) (x : ℤ) → P (line k c x)) → (rows : List T) (cs : List ℕ) (xs : List ℤ) → AllByRecursion P (workings owned known o line rows cs xs)
   lines-all_are P is [] cs xs = tt
   lines-all_are P is (r ∷ rs) cs [] = tt
   lines-all_are P is (r ∷ rs) cs (x ∷ xs) = go (eqb (owned r) o) (lines-all_are P is rs (drop 1 cs) xs) (lines-all_are P is rs cs xs)
     where
-      go : (b : Bool) → All P (workings owned known o line rs (drop 1 cs) xs) → All P (workings owned known o line rs cs xs) →
-          All P (cond b (line (known r) (get_or cs 0 0) x ∷ workings owned known o line rs (drop 1 cs) xs) (workings owned known o line rs cs xs))
+      go : (b : Bool) → AllByRecursion P (workings owned known o line rs (drop 1 cs) xs) → AllByRecursion P (workings owned known o line rs cs xs) →
+          AllByRecursion P (cond b (line (known r) (get_or cs 0 0) x ∷ workings owned known o line rs (drop 1 cs) xs) (workings owned known o line rs cs xs))
       go true f g = (is (known r) (get_or cs 0 0) x, f)
       go false f g = g
 

@@ -1,6 +1,6 @@
 -- The corrected plans of every contract.
 use Rattle.std.specs.Prelude.{◌≡◌, ℕ, ◌<◌, ◌≤◌, List, length, ℤ, pos, ◌-ℤ◌, ◌≢◌, slice_index_or, unsigned_abs}
-use Rattle.std.specs.List.{AllByRecursion as All}
+use Rattle.std.specs.List.{AllByRecursion}
 use Rattle.terms.specs.declared.codes.Direction.TheVariants.{Sale, Purchase}
 use Rattle.terms.specs.declared.records.Contract.{Contract}
 use Rattle.terms.specs.declared.records.Group.{Group}
@@ -13,7 +13,7 @@ use Rattle.planning.specs.Plans.{group_claims, share_claims, plans_of_groups, pl
 -- The limits that the lines of a book keep: a figure of at most 2,000,000 kWh for each line, and at most 64 lines a contract.
 pub record Trading (lines : List Line) (figures : List ℕ) : Type 0 where
   pub room : length figures ≡ length lines
-  pub small : All (λ f. f ≤ 2000000) figures
+  pub small : AllByRecursion (λ f. f ≤ 2000000) figures
   pub allowed : (contract : ℕ) → lines_of contract lines ≤ 64
 
 -- A contract's corrected sales less purchases.
@@ -30,5 +30,5 @@ pub record PlansCorrected (first second : ℕ → List ℕ → List ℕ) (contra
   pub share_parts : (j : ℕ) (c : Contract) → j < length contracts → c ≡ slice_index_or contracts j c → (k : ℕ) (g : Group) → k < length groups → g ≡ slice_index_or groups k g → g.contract ≡ c.number →
       plans_of_shares g.number shares shares_after ≡ signed_parts (slice_index_or groups_after k (pos 0)) (second (unsigned_abs (slice_index_or groups_after k (pos 0))) (share_claims g.number shares))
   -- a group of no contract keeps its figure, and a share of no group its plan
-  pub other_groups : (k : ℕ) (g : Group) → k < length groups → g ≡ slice_index_or groups k g → All (λ c. c.number ≢ g.contract) contracts → slice_index_or groups_after k (pos 0) ≡ slice_index_or groups_before k (pos 0)
-  pub other_shares : (i : ℕ) (s : Share) → i < length shares → s ≡ slice_index_or shares i s → All (λ g. g.number ≢ s.group) groups → slice_index_or shares_after i (pos 0) ≡ slice_index_or shares_before i (pos 0)
+  pub other_groups : (k : ℕ) (g : Group) → k < length groups → g ≡ slice_index_or groups k g → AllByRecursion (λ c. c.number ≢ g.contract) contracts → slice_index_or groups_after k (pos 0) ≡ slice_index_or groups_before k (pos 0)
+  pub other_shares : (i : ℕ) (s : Share) → i < length shares → s ≡ slice_index_or shares i s → AllByRecursion (λ g. g.number ≢ s.group) groups → slice_index_or shares_after i (pos 0) ≡ slice_index_or shares_before i (pos 0)

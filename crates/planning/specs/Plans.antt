@@ -1,6 +1,6 @@
 -- The corrected plan of a generation contract.
 use Rattle.std.specs.Prelude.{ℕ, ◌≤◌, List, length, ℤ, pos, ◌+ℤ◌}
-use Rattle.std.specs.List.{AllByRecursion as All}
+use Rattle.std.specs.List.{AllByRecursion}
 use Rattle.terms.specs.declared.records.Group.{Group}
 use Rattle.terms.specs.declared.records.GroupSort.{GroupSort}
 use Rattle.terms.specs.declared.records.GroupSort.TheVariants.{Generation, Curtailment}
@@ -15,8 +15,8 @@ pub record Limits (groups : List Group) (shares : List Share) : Type 0 where
   pub few_groups : length groups ≤ 96
   pub few_shares : length shares ≤ 256
   pub apart : Apart (λ (g : Group). g.number) groups
-  pub plans : All (λ g. plan_of g ≤ 2000000) groups
-  pub planned : All (λ s. s.planned ≤ 2000000) shares
+  pub plans : AllByRecursion (λ g. plan_of g ≤ 2000000) groups
+  pub planned : AllByRecursion (λ s. s.planned ≤ 2000000) shares
 
 -- The deemed plan among the contract's groups by the first rule, a generation group claiming what its shares planned together and a curtailment group its own plan,
 -- and each group's part among its shares by the second rule, by what they planned.

@@ -1,6 +1,6 @@
 // The working of a pro rata division: how each claimant came to its part, so that a reader can follow it with a pencil.
 ghost use Rattle.std.specs.Prelude.{◌≡◌, ℕ, ◌≤◌, map, length, ℤ, sum, unsigned_abs};
-ghost use Rattle.std.specs.List.{AllByRecursion as All};
+ghost use Rattle.std.specs.List.{AllByRecursion};
 ghost use Rattle.tables.specs.Listed.{listed};
 ghost use Rattle.division.specs.Rules.{pro_rata};
 ghost use Rattle.division.specs.Signed.{signed_parts};
@@ -189,7 +189,7 @@ pub fn work_out_groups(
 // Works out how a group's plan was divided among its shares. Callers are proved to hand over plans that were divided so.
 pub fn work_out_shares(shares: &[Share], group: u32, plan: i64, share_plans: &[i64]) -> Worked
     requires few { length shares.now ≤ 256 }
-    requires planned { All (λ s. s.planned ≤ 2000000) shares.now }
+    requires planned { AllByRecursion (λ s. s.planned ≤ 2000000) shares.now }
     requires room { length share_plans.now ≡ length shares.now }
     requires small { unsigned_abs plan ≤ 128000000 }
     requires divided { plans_of_shares group shares.now share_plans.now ≡ signed_parts plan (pro_rata (unsigned_abs plan) (share_claims group shares.now)) }

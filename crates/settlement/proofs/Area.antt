@@ -1,7 +1,7 @@
 -- All imbalances together, from the sums of groups, plants, trades and retailers.
 use Rattle.std.proofs.Common.{◌≡◌, ℕ, ◌+◌, ◌≤◌, Bool, true, false, cond, ◌&&◌, eqb, List, map, length, get_or, ℤ, pos, ◌+ℤ◌, ◌-ℤ◌, neg_ℤ, sum_by, sym, refl, ap, ◌∙◌, arith}
 use lib.ListN.{length-map}
-use Rattle.std.specs.List.{AllByRecursion as All}
+use Rattle.std.specs.List.{AllByRecursion}
 use Rattle.std.proofs.ByRecursion.{All-weaker, All-get_or, all_from_every}
 use Rattle.std.proofs.lemmas.List.{get_or_default}
 use Rattle.std.proofs.lemmas.Int.{ints}
@@ -89,7 +89,7 @@ module _ (reads : ℕ → ℕ) (contracts : List Contract) (places : List Place)
       curtailing_even (pos (settled (Curtailing c) number part).supplied) (settled (Curtailing c) number part).imbalance part (pos c.plan) (pos (group_demand reads contracts places number c))
       (methods_agree_in_sum c.method c.baseline c.plan (part +ℤ pos c.plan) (group_demand reads contracts places number c) sound.0)
 
-  groups_even : (groups : List Group) (parts : List ℤ) → length parts ≡ length groups → All (λ g. SoundSort g.sort) groups →
+  groups_even : (groups : List Group) (parts : List ℤ) → length parts ≡ length groups → AllByRecursion (λ g. SoundSort g.sort) groups →
       added_by (λ (z : SettledGroup). z.imbalance) (groups_settled reads contracts places shares allotted groups parts)
       +ℤ added_by (λ (z : SettledGroup). pos z.supplied) (groups_settled reads contracts places shares allotted groups parts)
       ≡ (pos (sum_by (used_by reads contracts places) groups) +ℤ neg_ℤ (added_by (made_by shares allotted) groups)) +ℤ added_up parts
@@ -125,7 +125,7 @@ module _ (reads : ℕ → ℕ) (contracts : List Contract) (places : List Place)
   supplied-once (Curtailing c) number one part = counted-one (λ (k : Contract). is_retail k.kind && eqb c.retailer k.number) (pos (settled (Curtailing c) number part).supplied) contracts one
 
 -- so retailers together are settled for what all groups were supplied with
-supplied-all : (contracts : List Contract) (settled : List SettledGroup) → All (λ (z : SettledGroup). added_by (λ (c : Contract). given_for c z) contracts ≡ pos z.supplied) settled →
+supplied-all : (contracts : List Contract) (settled : List SettledGroup) → AllByRecursion (λ (z : SettledGroup). added_by (λ (c : Contract). given_for c z) contracts ≡ pos z.supplied) settled →
     added_by (given_to settled) contracts ≡ added_by (λ (z : SettledGroup). pos z.supplied) settled
 supplied-all contracts settled once =
     added-same (given_to settled) (λ (c : Contract). added_by (λ (z : SettledGroup). given_for c z) settled) contracts by_group
@@ -225,7 +225,7 @@ module _ (first second : ℕ → List ℕ → List ℕ) (keeps : Keeps first) (f
       has-groups : Contract → Type 0
       has-groups c = Grouped c.kind (count_of (λ (g : Group). g.contract) c.number f.groups)
 
-      each : All (λ (c : Contract). parts_of c +ℤ retail_own f.lines (trades f) c ≡ own_trades c) f.contracts
+      each : AllByRecursion (λ (c : Contract). parts_of c +ℤ retail_own f.lines (trades f) c ≡ own_trades c) f.contracts
       each =
           all_from_every (λ (c : Contract). parts_of c +ℤ retail_own f.lines (trades f) c ≡ own_trades c) f.contracts
           (λ j d low h.
@@ -253,7 +253,7 @@ area_total first second rule keeps_first keeps_rule reads f w gb parts sb plans 
     to_one : SettledGroup → Type 0
     to_one z = added_by (λ (c : Contract). given_for c z) f.contracts ≡ pos z.supplied
 
-    once : All to_one settled
+    once : AllByRecursion to_one settled
     once =
         figured_each to_one (group_settled reads f.contracts f.places f.shares shared) f.groups parts
         (All-weaker (λ (g : Group). Retailed f.contracts g.sort) (λ (g : Group). (x : ℤ) → to_one (group_settled reads f.contracts f.places f.shares shared g x))

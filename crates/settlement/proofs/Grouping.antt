@@ -1,6 +1,6 @@
 -- How large the figures of settled groups are, and what is read past the end of lists.
 use Rattle.std.proofs.Common.{◌≡◌, ℕ, ◌+◌, ◌-◌, ◌*◌, ◌≤◌, Bool, true, false, cond, ltb, List, [], ◌∷◌, length, ℤ, pos, ◌-ℤ◌, sum_by, refl, arith}
-use Rattle.std.specs.List.{AllByRecursion as All}
+use Rattle.std.specs.List.{AllByRecursion}
 use Rattle.std.proofs.ByRecursion.{All-weaker, sum_by_le}
 use Rattle.tables.specs.Keys.{count_if}
 use Rattle.tables.proofs.Adding.{figured_each}
@@ -33,7 +33,7 @@ abbrev pub not_yet : SettledGroup
 not_yet = record { retailer = 0; supplied = 0; measured = 0; imbalance = pos 0 }
 
 -- what a retailer's groups were supplied with
-pub supplied-light : (number : ℕ) (groups : List SettledGroup) → length groups ≤ 96 → All (λ g. g.supplied ≤ 153600000) groups → supplied_to number groups ≤ 14745600000
+pub supplied-light : (number : ℕ) (groups : List SettledGroup) → length groups ≤ 96 → AllByRecursion (λ g. g.supplied ≤ 153600000) groups → supplied_to number groups ≤ 14745600000
 supplied-light number groups few small =
     omega (arith, claims-within (λ (g : SettledGroup). g.retailer) (λ (g : SettledGroup). g.supplied) number groups, sum_by_le (λ (g : SettledGroup). g.supplied) 153600000 groups small)
 
@@ -47,7 +47,7 @@ supplied-small One b p d u small used = go (ltb b u) (ltb u (b - p))
     go false false = omega arith
 supplied-small Two b p d u small used = omega arith
 
-module _ (reads : ℕ → ℕ) (small : (m : ℕ) → reads m ≤ 2000000) (contracts : List Contract) (places : List Place) (losses : All (λ c. c.multiplier ≤ 12000) contracts) (allowed : (o : Owner) → count_if (is_of o) places ≤ 64)
+module _ (reads : ℕ → ℕ) (small : (m : ℕ) → reads m ≤ 2000000) (contracts : List Contract) (places : List Place) (losses : AllByRecursion (λ c. c.multiplier ≤ 12000) contracts) (allowed : (o : Owner) → count_if (is_of o) places ≤ 64)
     (shares : List Share) (allotted : List ℕ) where
   sort_small : (sort : GroupSort) (number : ℕ) (plan : ℤ) → SoundSort sort → (settled_as reads contracts places shares allotted sort number plan).supplied ≤ 153600000
   sort_small Generation number plan s = omega arith
@@ -55,7 +55,7 @@ module _ (reads : ℕ → ℕ) (small : (m : ℕ) → reads m ≤ 2000000) (cont
       supplied-small c.method c.baseline c.plan plan (group_demand reads contracts places number c) s.1
       (demand-small reads small (of_group number) places _ (allowed (of_group number)) (loss_small c.retailer contracts losses))
 
-  pub groups-small : (groups : List Group) (parts : List ℤ) → All (λ g. SoundSort g.sort) groups → All (λ g. g.supplied ≤ 153600000) (groups_settled reads contracts places shares allotted groups parts)
+  pub groups-small : (groups : List Group) (parts : List ℤ) → AllByRecursion (λ g. SoundSort g.sort) groups → AllByRecursion (λ g. g.supplied ≤ 153600000) (groups_settled reads contracts places shares allotted groups parts)
   groups-small groups parts sound =
       figured_each (λ (g : SettledGroup). g.supplied ≤ 153600000) (group_settled reads contracts places shares allotted) groups parts
       (All-weaker (λ (g : Group). SoundSort g.sort) (λ (g : Group). (x : ℤ) → (group_settled reads contracts places shares allotted g x).supplied ≤ 153600000) (λ g s x. sort_small g.sort g.number _ s) groups sound)

@@ -1,6 +1,6 @@
 -- What the places of an owner used, where each of them has a reading.
 use Rattle.std.proofs.Common.{◌≡◌, ℕ, ◌+◌, ◌*◌, ◌/◌, ◌<◌, ◌≤◌, Bool, true, false, cond, eqb, List, [], ◌∷◌, map, length, is_some, Some, None, Ok, Err, sum, Option, Result, sym, refl, ap, ◌∙◌, subst, mul-le-mul, arith}
-use Rattle.std.specs.List.{AllByRecursion as All}
+use Rattle.std.specs.List.{AllByRecursion}
 use Rattle.std.proofs.lemmas.Bool.{both_ways}
 use Rattle.tables.specs.Carried.{carried_if}
 use Rattle.tables.specs.Keys.{count_if, first_of}
@@ -20,7 +20,7 @@ blank = record { meter = 0; owner = record { kind = RetailContract; number = 0 }
 
 module _ (read : ℕ → Option ℕ) where
   -- meters that all have a reading read what they read
-  all-readings : (meters : List ℕ) → All (λ m. is_some (read m) ≡ true) meters → readings read meters ≡ Ok (map (kwh_read read) meters)
+  all-readings : (meters : List ℕ) → AllByRecursion (λ m. is_some (read m) ≡ true) meters → readings read meters ≡ Ok (map (kwh_read read) meters)
   all-readings [] a = refl
   all-readings (m ∷ ms) a = go (read m) refl a.0 (all-readings ms a.1)
     where
@@ -30,16 +30,16 @@ module _ (read : ℕ → Option ℕ) where
           ap (λ r. before m (read m) r) ih ∙ ap (λ o. before m o (Ok (map (kwh_read read) ms))) e ∙ ap (λ k. Ok (k ∷ map (kwh_read read) ms)) (sym (ap (λ o. kwh_of o) e))
 
   -- the owner's meters are places' meters
-  owned_read : (owner : Owner) (places : List Place) → All (λ p. is_some (read p.meter) ≡ true) places → All (λ m. is_some (read m) ≡ true) (meters_of owner places)
+  owned_read : (owner : Owner) (places : List Place) → AllByRecursion (λ p. is_some (read p.meter) ≡ true) places → AllByRecursion (λ m. is_some (read m) ≡ true) (meters_of owner places)
   owned_read owner [] a = tt
   owned_read owner (p ∷ ps) a = go (is_of owner p) (owned_read owner ps a.1)
     where
-      go : (b : Bool) → All (λ m. is_some (read m) ≡ true) (meters_of owner ps) → All (λ m. is_some (read m) ≡ true) (cond b (p.meter ∷ meters_of owner ps) (meters_of owner ps))
+      go : (b : Bool) → AllByRecursion (λ m. is_some (read m) ≡ true) (meters_of owner ps) → AllByRecursion (λ m. is_some (read m) ≡ true) (cond b (p.meter ∷ meters_of owner ps) (meters_of owner ps))
       go true ih = (a.0, ih)
       go false ih = ih
 
   -- so the demand is what the definition says
-  pub demand-read : (owner : Owner) (places : List Place) (multiplier : ℕ) → All (λ p. is_some (read p.meter) ≡ true) places → demand_of read (meters_of owner places) multiplier ≡ Ok (demand_by (kwh_read read) places multiplier owner)
+  pub demand-read : (owner : Owner) (places : List Place) (multiplier : ℕ) → AllByRecursion (λ p. is_some (read p.meter) ≡ true) places → demand_of read (meters_of owner places) multiplier ≡ Ok (demand_by (kwh_read read) places multiplier owner)
   demand-read owner places multiplier a = ap (demand_from multiplier) (all-readings (meters_of owner places) (owned_read owner places a))
 
   -- no meter reads more than the largest reading of any source
@@ -76,7 +76,7 @@ pub never_both : (d without : ℕ) → ◌≡◌ {A = Result ℕ ℕ} (Ok d) (Er
 never_both d without e = let z : ◌≡◌ {A = ℕ} 0 1 = cc in omega arith
 
 -- no contract's multiplier is over the largest
-pub loss_small : (number : ℕ) (contracts : List Contract) → All (λ c. c.multiplier ≤ 12000) contracts → loss_of number contracts ≤ 12000
+pub loss_small : (number : ℕ) (contracts : List Contract) → AllByRecursion (λ c. c.multiplier ≤ 12000) contracts → loss_of number contracts ≤ 12000
 loss_small number [] a = omega arith
 loss_small number (c ∷ cs) a = go (eqb c.number number) (loss_small number cs a.1)
   where

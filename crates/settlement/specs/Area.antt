@@ -1,6 +1,6 @@
 -- The law of the area total: what all imbalances come to.
 use Rattle.std.specs.Prelude.{◌≡◌, ℕ, ◌+◌, ◌≤◌, Bool, true, false, ◌&&◌, List, map, length, ℤ, pos, ◌+ℤ◌, ◌-ℤ◌, sum_by, ◌==◌}
-use Rattle.std.specs.List.{AllByRecursion as All}
+use Rattle.std.specs.List.{AllByRecursion}
 use Rattle.tables.specs.Apart.{apart, Known}
 use Rattle.tables.specs.Figures.{added_by}
 use Rattle.tables.specs.Keys.{count_if}
@@ -62,13 +62,13 @@ pub record WellFiled (f : Filed) : Type 0 where
   pub lines_apart : apart same_line f.lines ≡ true
   pub line_contracts : Known (λ (c : Contract). c.number) (λ (l : Line). l.contract) f.contracts f.lines
   pub group_contracts : Known (λ (c : Contract). c.number) (λ (g : Group). g.contract) f.contracts f.groups
-  pub contract_groups : All (λ c. Grouped c.kind (count_of (λ (g : Group). g.contract) c.number f.groups)) f.contracts
-  pub share_groups : All (λ s. count_if (λ (g : Group). is_generating g.sort && s.group == g.number) f.groups ≡ 1) f.shares
+  pub contract_groups : AllByRecursion (λ c. Grouped c.kind (count_of (λ (g : Group). g.contract) c.number f.groups)) f.contracts
+  pub share_groups : AllByRecursion (λ s. count_if (λ (g : Group). is_generating g.sort && s.group == g.number) f.groups ≡ 1) f.shares
   pub share_plants : Known (λ (p : Plant). p.meter) (λ (s : Share). s.plant) f.plants f.shares
-  pub plant_shares : All (λ p. 1 ≤ count_if (is_at p.meter) f.shares) f.plants
+  pub plant_shares : AllByRecursion (λ p. 1 ≤ count_if (is_at p.meter) f.shares) f.plants
   pub ranks : RanksApart f.shares
-  pub retailers : All (λ g. Retailed f.contracts g.sort) f.groups
-  pub sound : All (λ g. SoundSort g.sort) f.groups
+  pub retailers : AllByRecursion (λ g. Retailed f.contracts g.sort) f.groups
+  pub sound : AllByRecursion (λ g. SoundSort g.sort) f.groups
 
 -- Metered demand of all owners, and metered output of all plants.
 abbrev pub contract_demand : (ℕ → ℕ) → List Place → Kind → Contract → ℕ

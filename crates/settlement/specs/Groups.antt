@@ -1,6 +1,6 @@
 -- How a group is settled.
 use Rattle.std.specs.Prelude.{◌≡◌, ℕ, ◌≤◌, Bool, List, length, ℤ, pos, ◌+ℤ◌, ◌-ℤ◌, sum, Option, ◌==◌, unsigned_abs}
-use Rattle.std.specs.List.{AllByRecursion as All}
+use Rattle.std.specs.List.{AllByRecursion}
 use Rattle.tables.specs.Figures.{figures_if, figured_with}
 use Rattle.terms.specs.declared.codes.OwnerKind.TheVariants.{CurtailmentGroup}
 use Rattle.terms.specs.declared.records.Contract.{Contract}
@@ -62,9 +62,9 @@ SoundSort (Curtailing c) = (c.plan ≤ c.baseline) × (c.baseline ≤ 2000000)
 
 -- What a book keeps of groups and of what was worked out for them and their shares.
 pub record Groupable (groups : List Group) (parts : List ℤ) (shares : List Share) (allotted : List ℕ) : Type 0 where
-  pub sound : All (λ g. SoundSort g.sort) groups
+  pub sound : AllByRecursion (λ g. SoundSort g.sort) groups
   pub parts_room : length parts ≡ length groups
-  pub parts_small : All (λ z. unsigned_abs z ≤ 128000000) parts
+  pub parts_small : AllByRecursion (λ z. unsigned_abs z ≤ 128000000) parts
   pub few_shares : length shares ≤ 256
   pub output_room : length allotted ≡ length shares
-  pub output_small : All (λ x. x ≤ 2000000) allotted
+  pub output_small : AllByRecursion (λ x. x ≤ 2000000) allotted

@@ -1,6 +1,6 @@
 // The metered demand of an owner of places.
 ghost use Rattle.std.specs.Prelude.{◌≡◌, ◌≤◌, true, is_some, ◌==◌};
-ghost use Rattle.std.specs.List.{AllByRecursion as All};
+ghost use Rattle.std.specs.List.{AllByRecursion};
 ghost use Rattle.tables.specs.Keys.{count_if};
 ghost use Rattle.tables.specs.Listed.{listed};
 ghost use Rattle.terms.specs.Owners.{is_of};
@@ -59,7 +59,7 @@ pub(crate) fn demand_of<S: MeterSource>(
     multiplier: u32,
 ) -> u64
     requires allowed { count_if (is_of owner) places.now ≤ 64 }
-    requires known { All (λ p. is_some (S.MeterSource.read source.now p.meter) ≡ true) places.now }
+    requires known { AllByRecursion (λ p. is_some (S.MeterSource.read source.now p.meter) ≡ true) places.now }
     requires small { multiplier ≤ 12000 }
     ensures value { result ≡ demand_by (kwh_read (S.MeterSource.read source.now)) places.now multiplier owner }
     ensures within { result ≤ 153600000 }

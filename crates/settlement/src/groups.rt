@@ -1,6 +1,6 @@
 // How groups are settled.
 ghost use Rattle.std.specs.Prelude.{◌≡◌, ◌≤◌, true, length, ◌==◌, unsigned_abs};
-ghost use Rattle.std.specs.List.{AllByRecursion as All};
+ghost use Rattle.std.specs.List.{AllByRecursion};
 ghost use Rattle.curtailment.specs.Methods.{settled_by};
 ghost use Rattle.settlement.specs.Demand.{kwh_read, Metered};
 ghost use Rattle.settlement.specs.Groups.{output_of, generation_settled, curtailment_settled, group_demand, SoundSort, group_settled, groups_settled, Groupable};
@@ -60,7 +60,7 @@ impl Keyed<OfGroup> for Share {
 fn output_of(shares: &[Share], allotted: &[u64], group: u32) -> u64
     requires few { length shares.now ≤ 256 }
     requires room { length allotted.now ≡ length shares.now }
-    requires small { All (λ x. x ≤ 2000000) allotted.now }
+    requires small { AllByRecursion (λ x. x ≤ 2000000) allotted.now }
     ensures value { result ≡ output_of group shares.now allotted.now }
     ensures within { result ≤ 512000000 }
 {
@@ -131,7 +131,7 @@ fn settle_group<S: MeterSource>(
     requires small { unsigned_abs part ≤ 128000000 }
     requires few { length shares.now ≤ 256 }
     requires room { length allotted.now ≡ length shares.now }
-    requires output { All (λ x. x ≤ 2000000) allotted.now }
+    requires output { AllByRecursion (λ x. x ≤ 2000000) allotted.now }
     ensures { result ≡ group_settled (kwh_read (S.MeterSource.read source.now)) contracts.now places.now shares.now allotted.now group.now part }
 {
     let plan = group_plan(group, part);
@@ -160,7 +160,7 @@ pub fn settle_groups<S: MeterSource>(
     requires groupable { Groupable groups.now parts.now shares.now allotted.now }
     requires room { length settled.old ≡ length groups.now }
     ensures exact { settled.new ≡ groups_settled (kwh_read (S.MeterSource.read source.now)) contracts.now places.now shares.now allotted.now groups.now parts.now }
-    ensures small { All (λ g. g.supplied ≤ 153600000) settled.new }
+    ensures small { AllByRecursion (λ g. g.supplied ≤ 153600000) settled.new }
 {
     for i in 0..groups.len() {
         settled[i] = settle_group(

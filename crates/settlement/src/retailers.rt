@@ -1,6 +1,6 @@
 // How retail contracts are settled.
 ghost use Rattle.std.specs.Prelude.{◌≡◌, ◌≤◌, true, length, is_some, unsigned_abs};
-ghost use Rattle.std.specs.List.{AllByRecursion as All};
+ghost use Rattle.std.specs.List.{AllByRecursion};
 ghost use Rattle.tables.specs.Keys.{count_if};
 ghost use Rattle.terms.specs.Owners.{is_of};
 ghost use Rattle.planning.specs.All.{Trading};
@@ -31,10 +31,10 @@ fn supplied_by<S: MeterSource>(
     contract: &Contract,
 ) -> u64
     requires allowed { (owner : Owner) → count_if (is_of owner) places.now ≤ 64 }
-    requires known { All (λ p. is_some (S.MeterSource.read source.now p.meter) ≡ true) places.now }
+    requires known { AllByRecursion (λ p. is_some (S.MeterSource.read source.now p.meter) ≡ true) places.now }
     requires multiplier { contract.now.multiplier ≤ 12000 }
     requires few { length groups.now ≤ 96 }
-    requires small { All (λ g. g.supplied ≤ 153600000) groups.now }
+    requires small { AllByRecursion (λ g. g.supplied ≤ 153600000) groups.now }
     ensures value { result ≡ retail_supplied (kwh_read (S.MeterSource.read source.now)) places.now groups.now contract.now }
     ensures within { result ≤ 14899200000 }
 {
@@ -68,11 +68,11 @@ fn settle_contract<S: MeterSource>(
     contract: &Contract,
 ) -> SettledContract
     requires allowed { (owner : Owner) → count_if (is_of owner) places.now ≤ 64 }
-    requires known { All (λ p. is_some (S.MeterSource.read source.now p.meter) ≡ true) places.now }
+    requires known { AllByRecursion (λ p. is_some (S.MeterSource.read source.now p.meter) ≡ true) places.now }
     requires multiplier { contract.now.multiplier ≤ 12000 }
     requires trading { Trading lines.now figures.now }
     requires few { length groups.now ≤ 96 }
-    requires small { All (λ g. g.supplied ≤ 153600000) groups.now }
+    requires small { AllByRecursion (λ g. g.supplied ≤ 153600000) groups.now }
     ensures { result ≡ contract_settled (kwh_read (S.MeterSource.read source.now)) places.now lines.now figures.now groups.now contract.now }
 {
     match contract.kind {
@@ -101,7 +101,7 @@ pub fn settle_contracts<S: MeterSource>(
     requires metered { Metered (S.MeterSource.read source.now) contracts.now places.now }
     requires trading { Trading lines.now figures.now }
     requires few { length groups.now ≤ 96 }
-    requires small { All (λ g. g.supplied ≤ 153600000) groups.now }
+    requires small { AllByRecursion (λ g. g.supplied ≤ 153600000) groups.now }
     requires room { length settled.old ≡ length contracts.now }
     ensures { settled.new ≡ contracts_settled (kwh_read (S.MeterSource.read source.now)) places.now lines.now figures.now groups.now contracts.now }
 {

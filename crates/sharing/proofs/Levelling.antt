@@ -1,6 +1,6 @@
 -- Two levels: what heads claim together, the steps of the loop over heads, and where the members' parts stand and what they come to.
 use Rattle.std.proofs.Common.{◌≡◌, ℕ, zero, suc, ◌+◌, ◌<◌, ◌≤◌, Bool, true, false, cond, eqb, List, [], ◌∷◌, length, get_or, drop, ℤ, pos, sum_by, sum, sym, refl, ap, ◌∙◌, arith}
-use Rattle.std.specs.List.{AllByRecursion as All}
+use Rattle.std.specs.List.{AllByRecursion}
 use Rattle.std.proofs.lemmas.List.{drop_more, at_drop_more, drop_all}
 use Rattle.std.proofs.lemmas.List.Sums.{sum_by-cons}
 use Rattle.std.proofs.lemmas.Bool.{eq-eqb, ne_eqb, eqb-true, cond-true, cond-false}
@@ -63,7 +63,7 @@ module _ {H M : Type 0} (owned numbered : H → ℕ) (belongs carried : M → �
           omega (arith, a, b, p, e)
       go false e = omega (arith, e)
 
-  adds_none : (o : ℕ) (m : M) (n : ℕ) (hs : List H) → belongs m ≡ n → All (λ h. numbered h ≡ n → ⊥) hs → adds o m hs ≡ 0
+  adds_none : (o : ℕ) (m : M) (n : ℕ) (hs : List H) → belongs m ≡ n → AllByRecursion (λ h. numbered h ≡ n → ⊥) hs → adds o m hs ≡ 0
   adds_none o m n [] e a = refl
   adds_none o m n (h ∷ hs) e a =
       let f : eqb (belongs m) (numbered h) ≡ false = ne_eqb (belongs m) (numbered h) (λ z. a.0 (sym z ∙ e)) in
@@ -131,7 +131,7 @@ module _ {H M : Type 0} (rule : ℕ → List ℕ → List ℕ) (keeps : Keeps ru
   length-after (h ∷ hs) (p ∷ ps) xs = length-after hs ps (one h p xs) ∙ length-one h p xs
 
   -- a number that none of the owner's heads has keeps its members' figures
-  after-others : (n : ℕ) (hs : List H) (ps xs : List ℤ) → length xs ≡ length members → All (λ h. owned h ≡ o → numbered h ≡ n → ⊥) hs → figures_of belongs n members (after hs ps xs) ≡ figures_of belongs n members xs
+  after-others : (n : ℕ) (hs : List H) (ps xs : List ℤ) → length xs ≡ length members → AllByRecursion (λ h. owned h ≡ o → numbered h ≡ n → ⊥) hs → figures_of belongs n members (after hs ps xs) ≡ figures_of belongs n members xs
   after-others n [] ps xs l a = refl
   after-others n (h ∷ hs) [] xs l a = refl
   after-others n (h ∷ hs) (p ∷ ps) xs l a =
@@ -141,7 +141,7 @@ module _ {H M : Type 0} (rule : ℕ → List ℕ → List ℕ) (keeps : Keeps ru
       go true t = figures-others rule keeps belongs carried (numbered h) n p members xs l (λ e. a.0 (eqb-true (owned h) o t) (sym e))
       go false t = refl
 
-  free : (n : ℕ) (hs : List H) → All (λ k. numbered k ≡ n → ⊥) hs → All (λ h. owned h ≡ o → numbered h ≡ n → ⊥) hs
+  free : (n : ℕ) (hs : List H) → AllByRecursion (λ k. numbered k ≡ n → ⊥) hs → AllByRecursion (λ h. owned h ≡ o → numbered h ≡ n → ⊥) hs
   free n [] a = tt
   free n (h ∷ hs) a = ((λ m. a.0), free n hs a.1)
 
@@ -169,7 +169,7 @@ module _ {H M : Type 0} (rule : ℕ → List ℕ → List ℕ) (keeps : Keeps ru
       ap added_up (after-parts hs ps xs l q a k h lt e m) ∙ parts_add rule keeps belongs carried (numbered h) (get_or ps k (pos 0)) members some
 
   -- a member of none of the owner's heads keeps its figure
-  pub after_keeps : (hs : List H) (ps xs : List ℤ) (i : ℕ) (m : M) → i < length members → m ≡ get_or members i m → All (λ h. owned h ≡ o → numbered h ≡ belongs m → ⊥) hs → get_or (after hs ps xs) i (pos 0) ≡ get_or xs i (pos 0)
+  pub after_keeps : (hs : List H) (ps xs : List ℤ) (i : ℕ) (m : M) → i < length members → m ≡ get_or members i m → AllByRecursion (λ h. owned h ≡ o → numbered h ≡ belongs m → ⊥) hs → get_or (after hs ps xs) i (pos 0) ≡ get_or xs i (pos 0)
   after_keeps [] ps xs i m l e a = refl
   after_keeps (h ∷ hs) [] xs i m l e a = refl
   after_keeps (h ∷ hs) (p ∷ ps) xs i m l e a = after_keeps hs ps (one h p xs) i m l e a.1 ∙ go (eqb (owned h) o) refl

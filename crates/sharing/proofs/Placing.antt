@@ -1,6 +1,6 @@
 -- Where the parts of one owner's rows stand after a whole is shared out, and what they come to, from the rule's terms alone.
 use Rattle.std.proofs.Common.{◌≡◌, ℕ, zero, suc, ◌+◌, ◌<◌, ◌≤◌, Bool, true, false, cond, eqb, List, [], ◌∷◌, map, length, get_or, drop, ℤ, pos, negsuc, ◌+ℤ◌, neg_ℤ, nat_abs, sum, sym, refl, ap, ◌∙◌, subst, arith}
-use Rattle.std.specs.List.{AllByRecursion as All}
+use Rattle.std.specs.List.{AllByRecursion}
 use Rattle.std.proofs.lemmas.List.{length-map}
 use Rattle.std.proofs.ByRecursion.{All-map, All-weaker}
 use Rattle.std.proofs.lemmas.Int.{ints}
@@ -51,16 +51,16 @@ module _ {T : Type 0} (owned : T → ℕ) (o : ℕ) where
       go false t ih = ih
 
   -- what holds of all the owner's figures holds of the figure of each of the owner's rows
-  pub own-figure : (P : ℤ → Type 0) (rows : List T) (xs : List ℤ) → length xs ≡ length rows → All P (figures_of owned o rows xs) →
+  pub own-figure : (P : ℤ → Type 0) (rows : List T) (xs : List ℤ) → length xs ≡ length rows → AllByRecursion P (figures_of owned o rows xs) →
       (k : ℕ) (r : T) → k < length rows → r ≡ get_or rows k r → owned r ≡ o → P (get_or xs k (pos 0))
   own-figure P [] xs l a k r h e m = absurd (omega arith)
   own-figure P (q ∷ rs) [] l a k r h e m = absurd (omega arith)
   own-figure P (q ∷ rs) (x ∷ xs) l a zero r h e m =
       let t : eqb (owned q) o ≡ true = eq-eqb (owned q) o (ap owned (sym e) ∙ m) in
-      (subst (λ (b : Bool). All P (cond b (x ∷ figures_of owned o rs xs) (figures_of owned o rs xs))) t a).0
+      (subst (λ (b : Bool). AllByRecursion P (cond b (x ∷ figures_of owned o rs xs) (figures_of owned o rs xs))) t a).0
   own-figure P (q ∷ rs) (x ∷ xs) l a (suc k) r h e m = go (eqb (owned q) o) a (λ b. own-figure P rs xs (omega arith) b k r (omega arith) e m)
     where
-      go : (b : Bool) → All P (cond b (x ∷ figures_of owned o rs xs) (figures_of owned o rs xs)) → (All P (figures_of owned o rs xs) → P (get_or xs k (pos 0))) → P (get_or xs k (pos 0))
+      go : (b : Bool) → AllByRecursion P (cond b (x ∷ figures_of owned o rs xs) (figures_of owned o rs xs)) → (AllByRecursion P (figures_of owned o rs xs) → P (get_or xs k (pos 0))) → P (get_or xs k (pos 0))
       go true c f = f c.1
       go false c f = f c
 
@@ -129,9 +129,9 @@ module _ {T : Type 0} (rule : ℕ → List ℕ → List ℕ) (keeps : Keeps rule
   parts_add some = signed_adds w (rule (nat_abs w) claims) (keeps.all (nat_abs w) claims (omega (arith, length-claims owned o claimed rows)))
 
   -- no part is larger than the whole
-  all-within : 1 ≤ length claims → All (λ z. nat_abs z ≤ nat_abs w) parts
+  all-within : 1 ≤ length claims → AllByRecursion (λ z. nat_abs z ≤ nat_abs w) parts
   all-within some =
-      let low : All (λ p. p ≤ nat_abs w) (rule (nat_abs w) claims) = parts_small (rule (nat_abs w) claims) (nat_abs w) (nat_abs w) (keeps.all (nat_abs w) claims some) (omega arith) in
+      let low : AllByRecursion (λ p. p ≤ nat_abs w) (rule (nat_abs w) claims) = parts_small (rule (nat_abs w) claims) (nat_abs w) (nat_abs w) (keeps.all (nat_abs w) claims some) (omega arith) in
       All-map (λ (z : ℤ). nat_abs z ≤ nat_abs w) (with_sign w) (rule (nat_abs w) claims) (All-weaker (λ p. p ≤ nat_abs w) (λ p. nat_abs (with_sign w p) ≤ nat_abs w) (λ p q. omega (arith, nat_abs-sign w p)) (rule (nat_abs w) claims) low)
 
   module _ (xs : List ℤ) where
@@ -155,7 +155,7 @@ module _ {T : Type 0} (rule : ℕ → List ℕ → List ℕ) (keeps : Keeps rule
     shared-within l k r h e m =
         let P : ℤ → Type 0 = λ z. nat_abs z ≤ nat_abs w in
         let some : 1 ≤ length claims = omega (arith, some-row owned o rows k r h e m, length-claims owned o claimed rows) in
-        own-figure owned o P rows (shared rule owned claimed o w rows xs) (length-shared rule owned claimed o w rows xs ∙ l) (subst (All P) (sym (shared-parts l)) (all-within some)) k r h e m
+        own-figure owned o P rows (shared rule owned claimed o w rows xs) (length-shared rule owned claimed o w rows xs ∙ l) (subst (AllByRecursion P) (sym (shared-parts l)) (all-within some)) k r h e m
 
     pub shared_out : (new : List ℤ) → length xs ≡ length rows → new ≡ shared rule owned claimed o w rows xs → SharedOut rule owned claimed o w rows xs new
     shared_out new l e = subst (λ (ys : List ℤ). SharedOut rule owned claimed o w rows xs ys) (sym e) (record {

@@ -1,14 +1,14 @@
 -- Two levels: an owner's whole among the owner's heads, and each head's part among the head's members.
 -- Heads have numbers, and a member belongs to the head whose number it names.
 use Rattle.std.specs.Prelude.{◌≡◌, ℕ, ◌<◌, ◌≤◌, cond, List, [], ◌∷◌, length, ℤ, pos, sum, ◌==◌, ◌≢◌, slice_index_or, unsigned_abs}
-use Rattle.std.specs.List.{AllByRecursion as All}
+use Rattle.std.specs.List.{AllByRecursion}
 use Rattle.tables.specs.Carried.{claims_of}
 use Rattle.sharing.specs.Owners.{count_of, figures_of, added_up, parts_for, shared, SharedOut}
 
 -- No two heads have one number.
 abbrev pub Apart : {H : Type 0} → (H → ℕ) → List H → Type 0
 Apart numbered [] = Unit {0}
-Apart numbered (h ∷ hs) = All (λ k. numbered k ≢ numbered h) hs × Apart numbered hs
+Apart numbered (h ∷ hs) = AllByRecursion (λ k. numbered k ≢ numbered h) hs × Apart numbered hs
 
 -- What a head claims, from what its members carry together.
 abbrev pub claim_of : {H M : Type 0} → (H → ℕ → ℕ) → (H → ℕ) → (M → ℕ) → (M → ℕ) → List M → H → ℕ
@@ -39,7 +39,7 @@ pub record SharedOnLevels {H M : Type 0} (first second : ℕ → List ℕ → Li
   pub parts : (k : ℕ) (h : H) → k < length heads → h ≡ slice_index_or heads k h → owned h ≡ owner →
       figures_of belongs (numbered h) members members_after ≡ parts_for second belongs carried (numbered h) (slice_index_or heads_after k (pos 0)) members
   -- a member of none of the owner's heads keeps its figure
-  pub others : (i : ℕ) (m : M) → i < length members → m ≡ slice_index_or members i m → All (λ h. owned h ≡ owner → numbered h ≢ belongs m) heads →
+  pub others : (i : ℕ) (m : M) → i < length members → m ≡ slice_index_or members i m → AllByRecursion (λ h. owned h ≡ owner → numbered h ≢ belongs m) heads →
       slice_index_or members_after i (pos 0) ≡ slice_index_or members_before i (pos 0)
   -- the members of each of the owner's heads come to the head's figure
   pub adds : (k : ℕ) (h : H) → k < length heads → h ≡ slice_index_or heads k h → owned h ≡ owner → 1 ≤ count_of belongs (numbered h) members →

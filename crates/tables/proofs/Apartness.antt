@@ -1,6 +1,6 @@
 -- Where rows are told apart, a test that cannot tell two of them apart passes at most one, and a search finds that one.
 use Rattle.std.proofs.Common.{◌≡◌, ◌+◌, ◌≤◌, Bool, true, false, cond, not, List, [], ◌∷◌, Some, None, refl, ◌∙◌, arith}
-use Rattle.std.specs.List.{AllByRecursion as All}
+use Rattle.std.specs.List.{AllByRecursion}
 use Rattle.std.proofs.ByRecursion.{All-weaker}
 use Rattle.std.proofs.lemmas.Bool.{and_parts, or_parts, not-true, both_ways, cond-true, cond-false}
 use Rattle.tables.specs.Keys.{first_of, count_if}
@@ -27,7 +27,7 @@ module _ {T : Type 0} where
       go true q ih = let z = count_none t (same x) xs (not-true _ p.0) (λ y r. w x y q r) in omega arith
       go false q ih = omega arith
 
-  count_some : (t : T → Bool) (xs : List T) → All (λ m. t m ≡ true → 1 ≤ count_if t xs) xs
+  count_some : (t : T → Bool) (xs : List T) → AllByRecursion (λ m. t m ≡ true → 1 ≤ count_if t xs) xs
   count_some t [] = tt
   count_some t (x ∷ xs) = (here (t x), All-weaker (λ m. t m ≡ true → 1 ≤ count_if t xs) (λ m. t m ≡ true → 1 ≤ cond (t x) 1 0 + count_if t xs) (λ m h q. let k = h q in omega arith) xs (count_some t xs))
     where
@@ -36,11 +36,11 @@ module _ {T : Type 0} where
       here false q = absurd (both_ways false refl q)
 
   -- the one that passes is the one that is found
-  pub found-is : (t : T → Bool) (xs : List T) → count_if t xs ≤ 1 → All (λ m. t m ≡ true → first_of t xs ≡ Some m) xs
+  pub found-is : (t : T → Bool) (xs : List T) → count_if t xs ≤ 1 → AllByRecursion (λ m. t m ≡ true → first_of t xs ≡ Some m) xs
   found-is t [] c = tt
   found-is t (x ∷ xs) c = (λ q. cond-true _ _ _ q, go (t x) c (found-is t xs))
     where
-      go : (b : Bool) → cond b 1 0 + count_if t xs ≤ 1 → (count_if t xs ≤ 1 → All (λ m. t m ≡ true → first_of t xs ≡ Some m) xs) → All (λ m. t m ≡ true → cond b (Some x) (first_of t xs) ≡ Some m) xs
+      go : (b : Bool) → cond b 1 0 + count_if t xs ≤ 1 → (count_if t xs ≤ 1 → AllByRecursion (λ m. t m ≡ true → first_of t xs ≡ Some m) xs) → AllByRecursion (λ m. t m ≡ true → cond b (Some x) (first_of t xs) ≡ Some m) xs
       go true k ih = All-weaker (λ m. t m ≡ true → 1 ≤ count_if t xs) (λ m. t m ≡ true → Some x ≡ Some m) (λ m h q. let n = h q in absurd (omega arith)) xs (count_some t xs)
       go false k ih = ih (omega arith)
 

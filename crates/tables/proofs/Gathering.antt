@@ -2,7 +2,7 @@
 use Rattle.std.proofs.Common.{◌≡◌, ℕ, ◌+◌, ◌*◌, ◌<◌, ◌≤◌, Bool, true, false, cond, List, [], ◌∷◌, ◌++◌, length, get_or, drop, sum, sym, refl, ap, ◌∙◌, add-mul, one-mul, zero-mul, arith}
 use Rattle.std.proofs.lemmas.List.{at_drop_all, drop_more, append_assoc, append-nil}
 use Rattle.std.proofs.lemmas.Bool.{cond-true, cond-false, both_ways}
-use Rattle.std.specs.List.{AllByRecursion as All}
+use Rattle.std.specs.List.{AllByRecursion}
 use Rattle.tables.specs.Keys.{count_if}
 use Rattle.tables.specs.Figures.{figures_if}
 use Rattle.tables.proofs.Carrying.{sum-cons}
@@ -28,7 +28,7 @@ module _ {T : Type 0} (passes : T → Bool) (rows : List T) (xs : List ℕ) (i :
   gathered_all out all h inv = sym (append-nil out) ∙ sym (ap (λ q. out ++ q) (at_drop_all (λ q. figures_if passes q (drop i xs)) rows i h)) ∙ inv
 
 -- the figures of the rows that pass come to no more than so many of the largest
-pub figures-light : {T : Type 0} (passes : T → Bool) (most : ℕ) (rows : List T) (xs : List ℕ) → All (λ x. x ≤ most) xs → sum (figures_if passes rows xs) ≤ count_if passes rows * most
+pub figures-light : {T : Type 0} (passes : T → Bool) (most : ℕ) (rows : List T) (xs : List ℕ) → AllByRecursion (λ x. x ≤ most) xs → sum (figures_if passes rows xs) ≤ count_if passes rows * most
 figures-light passes most [] xs s = omega arith
 figures-light passes most (r ∷ rs) [] s = omega arith
 figures-light passes most (r ∷ rs) (x ∷ xs) s = go (passes r) (figures-light passes most rs xs s.1)

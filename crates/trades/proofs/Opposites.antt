@@ -1,6 +1,6 @@
 -- Opposite lines get the same corrected figure, and a line without an opposite zero.
 use Rattle.std.proofs.Common.{◌≡◌, ℕ, ◌≤◌, min, true, false, not, ◌&&◌, eqb, List, [], ◌∷◌, Some, sym, refl, ap, ◌∙◌, arith}
-use Rattle.std.specs.List.{AllByRecursion as All}
+use Rattle.std.specs.List.{AllByRecursion}
 use Rattle.std.proofs.ByRecursion.{All-weaker}
 use Rattle.std.proofs.lemmas.Bool.{and_parts, and_from, both_ways, eqb-true, eq-eqb}
 use Rattle.tables.specs.Keys.{first_of, count_if}
@@ -81,15 +81,15 @@ by_opposite : (ls : List Line) (l m : Line) → opposite l m ≡ true → first_
 by_opposite ls l m o e =
     ap (λ q. corrected_with q ls l) (faces-is l.partner m.contract (facing l m o).mine) ∙ ap (λ x. min l.planned (planned_by x)) e
 
-all_any : {A B : Type 0} (P : B → A → Type 0) (xs : List A) → ((b : B) → All (λ a. P b a) xs) → All (λ a. (b : B) → P b a) xs
+all_any : {A B : Type 0} (P : B → A → Type 0) (xs : List A) → ((b : B) → AllByRecursion (λ a. P b a) xs) → AllByRecursion (λ a. (b : B) → P b a) xs
 all_any P [] h = tt
 all_any P (x ∷ xs) h = (λ b. (h b).0, all_any P xs (λ b. (h b).1))
 
 pub opposites_agree : OppositesAgree
 unfolding Sought
-opposites_agree ls w = All-weaker (Sought ls) (λ l. All (λ m. opposite l m ≡ true → corrected ls l ≡ corrected ls m) ls) outer ls sought
+opposites_agree ls w = All-weaker (Sought ls) (λ l. AllByRecursion (λ m. opposite l m ≡ true → corrected ls l ≡ corrected ls m) ls) outer ls sought
   where
-    sought : All (Sought ls) ls
+    sought : AllByRecursion (Sought ls) ls
     sought = all_any (λ l m. opposite l m ≡ true → first_of (opposite l) ls ≡ Some m) ls (λ l. found-is (opposite l) ls (opposite-once ls w l))
 
     pair : (l m : Line) → Sought ls l → Sought ls m → opposite l m ≡ true → corrected ls l ≡ corrected ls m
@@ -100,7 +100,7 @@ opposites_agree ls w = All-weaker (Sought ls) (λ l. All (λ m. opposite l m ≡
         let c : min l.planned m.planned ≡ min m.planned l.planned = omega arith in
         a ∙ c ∙ sym b
 
-    outer : (l : Line) → Sought ls l → All (λ m. opposite l m ≡ true → corrected ls l ≡ corrected ls m) ls
+    outer : (l : Line) → Sought ls l → AllByRecursion (λ m. opposite l m ≡ true → corrected ls l ≡ corrected ls m) ls
     outer l sl = All-weaker (Sought ls) (λ m. opposite l m ≡ true → corrected ls l ≡ corrected ls m) (λ m sm. pair l m sl sm) ls sought
 
 pub alone_is-zero : AloneIsZero

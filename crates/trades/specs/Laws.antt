@@ -1,6 +1,6 @@
 -- The laws of corrected trades.
 use Rattle.std.specs.Prelude.{◌≡◌, ℕ, Bool, true, false, not, ◌&&◌, List, ◌==◌}
-use Rattle.std.specs.List.{AllByRecursion as All}
+use Rattle.std.specs.List.{AllByRecursion}
 use Rattle.tables.specs.Apart.{has, apart}
 use Rattle.terms.specs.declared.partner.Partner.{Partner}
 use Rattle.terms.specs.declared.partner.Partner.TheVariants.{Exchange, Outside, Contract}
@@ -25,7 +25,7 @@ same_line l m = l.contract == m.contract && (not (turned l.direction m.direction
 -- Where no two lines have one key, two opposite lines get the same corrected figure.
 abbrev pub OppositesAgree : Type 0
 OppositesAgree = (lines : List Line) → apart same_line lines ≡ true →
-    All (λ l. All (λ m. opposite l m ≡ true → corrected lines l ≡ corrected lines m) lines) lines
+    AllByRecursion (λ l. AllByRecursion (λ m. opposite l m ≡ true → corrected lines l ≡ corrected lines m) lines) lines
 
 -- A line with a contract that has no opposite line is corrected to zero.
 abbrev pub AloneIsZero : Type 0

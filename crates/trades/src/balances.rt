@@ -1,6 +1,6 @@
 // What a contract sold and bought, by the corrected figures of its lines.
 ghost use Rattle.std.specs.Prelude.{◌≡◌, ◌≤◌, length};
-ghost use Rattle.std.specs.List.{AllByRecursion as All};
+ghost use Rattle.std.specs.List.{AllByRecursion};
 ghost use Rattle.terms.specs.declared.codes.Direction.TheVariants.{Sale, Purchase};
 ghost use Rattle.trades.specs.Trades.{trades_of, traded, lines_of};
 
@@ -35,7 +35,7 @@ impl Keyed<TradesOf> for Line {
 fn total_traded(lines: &[Line], figures: &[u32], direction: Direction, contract: u32) -> u32
     requires room { length figures.now ≡ length lines.now }
     requires allowed { lines_of contract lines.now ≤ 64 }
-    requires small { All (λ f. f ≤ 2000000) figures.now }
+    requires small { AllByRecursion (λ f. f ≤ 2000000) figures.now }
     ensures value { result ≡ traded direction contract lines.now figures.now }
     ensures within { result ≤ 128000000 }
 {
@@ -55,7 +55,7 @@ fn total_traded(lines: &[Line], figures: &[u32], direction: Direction, contract:
 pub fn balance_of(lines: &[Line], figures: &[u32], contract: u32) -> Balance
     requires room { length figures.now ≡ length lines.now }
     requires allowed { lines_of contract lines.now ≤ 64 }
-    requires small { All (λ f. f ≤ 2000000) figures.now }
+    requires small { AllByRecursion (λ f. f ≤ 2000000) figures.now }
     ensures sold { result.sold ≡ traded Sale contract lines.now figures.now }
     ensures bought { result.bought ≡ traded Purchase contract lines.now figures.now }
     ensures within { (result.sold ≤ 128000000) × (result.bought ≤ 128000000) }

@@ -1,5 +1,5 @@
 use Rattle.std.proofs.Common.{◌≡◌, ℕ, ◌<◌, ◌≤◌, length, get_or, ℤ, pos, nat_abs, Some, sym, ap, ◌∙◌, subst, arith}
-use Rattle.std.specs.List.{AllByRecursion as All}
+use Rattle.std.specs.List.{AllByRecursion}
 use Rattle.std.proofs.ByRecursion.{All-get_or}
 use Rattle.tables.proofs.Writing.{taken_more, taken-all, length_with, with_at}
 use Rattle.terms.specs.declared.records.Group.{Group}
@@ -49,4 +49,4 @@ returns g c =
     let exact = taken-all (groups_settled reads c.args.contracts.now c.args.places.now c.args.shares.now c.args.allotted.now groups parts) c.loop-i.settled c.loop-i.i (omega (arith, long)) (omega (arith, long)) c.loop-i.invariant in
     let bounded : (meter kwh : ℕ) → g.S.MeterSource.read c.args.source.now meter ≡ Some kwh → kwh ≤ 2000000 = λ m k e. omega (arith, g.met.S.MeterSource.bounded c.args.source.now m k e, g.met.S.MeterSource.small) in
     let small = groups-small reads (reads_small (g.S.MeterSource.read c.args.source.now) bounded) c.args.contracts.now c.args.places.now c.requires.metered.multipliers c.requires.metered.allowed c.args.shares.now c.args.allotted.now groups parts c.requires.groupable.sound in
-    record { exact = exact; small = subst (All (λ (q : SettledGroup). q.supplied ≤ 153600000)) (sym exact) small }
+    record { exact = exact; small = subst (AllByRecursion (λ (q : SettledGroup). q.supplied ≤ 153600000)) (sym exact) small }
