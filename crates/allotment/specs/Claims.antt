@@ -1,5 +1,5 @@
 -- What the shares at a plant claim of its output, and in which order.
-use Rattle.std.specs.Prelude.{ℕ, zero, suc, ◌+◌, cond, List, [], ◌∷◌, ◌++◌, ℤ, pos, negsuc, Some, None, Option, ◌==◌, nat_eq}
+use Rattle.std.specs.Prelude.{ℕ, zero, suc, ◌+◌, cond, List, [], ◌∷◌, ℤ, pos, negsuc, Some, None, Option, ◌==◌, nat_eq}
 use Rattle.tables.specs.Keys.{first_of}
 use Rattle.terms.specs.declared.records.Share.{Share}
 use Rattle.allotment.specs.declared.claims.Claim.{Claim}

@@ -1,5 +1,5 @@
 -- Room in a table for a key that fits no row.
-use Rattle.std.proofs.Common.{◌≡◌, ℕ, ◌<◌, ◌≤◌, Bool, true, false, not, ◌&&◌, ◌||◌, leb, List, length, is_some, None, sym, refl, ap, ◌∙◌, arith}
+use Rattle.std.proofs.Common.{◌≡◌, ℕ, ◌<◌, Bool, false, not, ◌&&◌, ◌||◌, leb, List, length, is_some, None, sym, ap, ◌∙◌}
 use Rattle.std.proofs.lemmas.Bool.{or_parts, leb-false}
 use Rattle.tables.specs.Apart.{has}
 use Rattle.tables.specs.Keys.{find}

@@ -212,7 +212,7 @@ place_refusal f meter kind owner = place_refusal_for f meter (owner_kind_of kind
 
 abbrev pub place_of : Filed → ℕ → Option OwnerKind → ℕ → Filed
 place_of f meter None owner = f
-place_of f meter (Some kind) owner = with_places f (f.places ++ record { meter = meter; owner = record { kind = kind; number = owner } } ∷ [])
+place_of f meter (Some kind) owner = with_places f (f.places ++ record { meter = meter; owner_kind = kind; owner = owner } ∷ [])
 
 abbrev pub place_filed : Filed → ℕ → ℕ → ℕ → Filed
 place_filed f meter kind owner = place_of f meter (owner_kind_of kind) owner

@@ -3,12 +3,10 @@ use Rattle.std.specs.Prelude.{ℕ, Bool, true, false, not, ◌&&◌, ◌||◌, L
 use Rattle.tables.specs.Apart.{has}
 use Rattle.tables.specs.Keys.{first_of, count_if}
 use Rattle.terms.specs.Owners.{is_of}
-use Rattle.terms.specs.declared.codes.Direction.{Direction}
 use Rattle.terms.specs.declared.codes.Kind.{Kind}
 use Rattle.terms.specs.declared.codes.Kind.TheVariants.{Generation, Retail, Negawatt}
 use Rattle.terms.specs.declared.codes.OwnerKind.{OwnerKind}
 use Rattle.terms.specs.declared.codes.OwnerKind.TheVariants.{RetailContract, CurtailmentGroup}
-use Rattle.terms.specs.declared.partner.Partner.{Partner}
 use Rattle.terms.specs.declared.records.Contract.{Contract}
 use Rattle.terms.specs.declared.records.Group.{Group}
 use Rattle.terms.specs.declared.records.Line.{Line}

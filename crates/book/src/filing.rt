@@ -194,7 +194,11 @@ impl Filings {
         if self.places.is_full() | (self.count_places(owner) >= ALLOWANCE) {
             return Err(Refusal::Full);
         }
-        self.places.push(Place { meter, owner });
+        self.places.push(Place {
+            meter,
+            owner_kind: owner.kind,
+            owner: owner.number,
+        });
         Ok(())
     }
 }

@@ -21,7 +21,6 @@ figures-small all (l ∷ ls) h = (corrected-small l.partner all l h.0, figures-s
 pub trading : (ls : List Line) (fs : List ℕ) → length ls ≤ 12 → length fs ≡ length ls → AllByRecursion line_fine ls → fs ≡ map (corrected ls) ls → Trading ls fs
 trading ls fs few room fine is = record {
   room = room;
-  few = omega arith;
   small = subst (λ (xs : List ℕ). AllByRecursion (λ f. f ≤ 2000000) xs) (sym is) (figures-small ls ls fine);
   allowed = λ c. omega (arith, count_few (λ (l : Line). eqb l.contract c) ls);
 }

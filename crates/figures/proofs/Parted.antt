@@ -19,9 +19,8 @@ use Rattle.division.proofs.Signs.{nat_abs-sign, parts_small}
 use Rattle.sharing.specs.Levels.{claim_of}
 use Rattle.sharing.proofs.Steps.{length-claims}
 use Rattle.sharing.proofs.Placing.{own-figure, some-row}
-use Rattle.planning.specs.Plans.{group_claims, plans_of_groups}
-use Rattle.planning.specs.All.{Trading, PlansCorrected}
-use Rattle.trades.specs.Trades.{own_of}
+use Rattle.planning.specs.Plans.{group_claims}
+use Rattle.planning.specs.All.{Trading, own_of, PlansCorrected}
 use Rattle.planning.proofs.Deemed.{apart-small}
 use Rattle.figures.specs.Rows.{homed}
 

@@ -1,4 +1,6 @@
 // Prints what the engine's functions answer on generated cases, a line for each; docs/FIGURES.md says how the cases are made.
+#![tactic(auto)]
+
 use std::io;
 
 mod curtailing;

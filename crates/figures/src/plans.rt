@@ -166,7 +166,7 @@ fn correct<A: DivisionRule, B: DivisionRule>(
     second: &B,
     kind: Kind,
     lines: &[Line],
-    figures: &[u64],
+    figures: &[u32],
     groups: &[Group],
     shares: &[Share],
     parts: &mut [i64],
@@ -195,7 +195,7 @@ fn correct_by(
     second: Rule,
     kind: Kind,
     lines: &[Line],
-    figures: &[u64],
+    figures: &[u32],
     groups: &[Group],
     shares: &[Share],
     parts: &mut [i64],
@@ -272,7 +272,7 @@ fn show_plans(
     second: Rule,
     kind: Kind,
     lines: &[Line],
-    figures: &[u64],
+    figures: &[u32],
     groups: &[Group],
     shares: &[Share],
 ) -> io::Result<()>
@@ -318,7 +318,7 @@ fn show_case(
     first: Rule,
     second: Rule,
     lines: &[Line],
-    figures: &[u64],
+    figures: &[u32],
 ) -> io::Result<()>
     requires { Trading lines.now figures.now }
 {

@@ -178,7 +178,7 @@ impl DrawsRows<Line> for LinePattern {
 }
 
 // A line and its corrected figure.
-fn show_line(rt: HostRuntime, line: &Line, figure: u64) -> io::Result<()> {
+fn show_line(rt: HostRuntime, line: &Line, figure: u32) -> io::Result<()> {
     let contract = line.contract;
     let trade = match line.direction {
         Direction::Sale => "sells to",
@@ -195,7 +195,7 @@ fn show_line(rt: HostRuntime, line: &Line, figure: u64) -> io::Result<()> {
 }
 
 // Every line with its corrected figure.
-pub fn show_lines(rt: HostRuntime, lines: &[Line], figures: &[u64]) -> io::Result<()>
+pub fn show_lines(rt: HostRuntime, lines: &[Line], figures: &[u32]) -> io::Result<()>
     requires { length figures.now ≡ length lines.now }
 {
     for i in 0..lines.len() {
@@ -205,7 +205,7 @@ pub fn show_lines(rt: HostRuntime, lines: &[Line], figures: &[u64]) -> io::Resul
 }
 
 // What each contract sold and bought.
-fn show_balances(rt: HostRuntime, lines: &[Line], figures: &[u64]) -> io::Result<()>
+fn show_balances(rt: HostRuntime, lines: &[Line], figures: &[u32]) -> io::Result<()>
     requires { Trading lines.now figures.now }
 {
     for contract in 11..14 {
@@ -218,7 +218,7 @@ fn show_balances(rt: HostRuntime, lines: &[Line], figures: &[u64]) -> io::Result
 }
 
 // Draws the lines of a case, and their corrected figures.
-pub fn draw_lines(pattern: &LinePattern, draws: &mut Draws, lines: &mut [Line], figures: &mut [u64])
+pub fn draw_lines(pattern: &LinePattern, draws: &mut Draws, lines: &mut [Line], figures: &mut [u32])
     requires few { length lines.old ≤ 12 }
     requires room { length figures.old ≡ length lines.old }
     ensures { Trading lines.new figures.new }

@@ -4,6 +4,11 @@ use Rattle.metering.specs.Lookup.{is_number, first_reading}
 use Rattle.metering.specs.declared.half_hour.HalfHourRow.{HalfHourRow}
 use Rattle.metering.specs.declared.register.RegisterRow.{RegisterRow}
 
+-- The kWh of a reading; a meter without one counts as 0.
+abbrev pub kwh_of : Option ℕ → ℕ
+kwh_of None = 0
+kwh_of (Some kwh) = kwh
+
 -- A half-hour row with a meter number and at most 2,000,000 kWh gives its kWh; any other gives none.
 abbrev pub half_hour_reading : HalfHourRow → Option ℕ
 half_hour_reading row = cond (is_number row.number && nat_le row.kwh 2000000) (Some row.kwh) None

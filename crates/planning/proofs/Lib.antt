@@ -3,3 +3,4 @@ pub mod Lines
 pub mod Explaining
 pub mod Everyone
 pub mod Sums
+pub mod Within

@@ -5,7 +5,7 @@ use Rattle.std.specs.List.{AllByRecursion}
 use Rattle.std.proofs.ByRecursion.{All-weaker, All-get_or, all_from_every}
 use Rattle.std.proofs.lemmas.List.{get_or_default}
 use Rattle.std.proofs.lemmas.Int.{ints}
-use Rattle.tables.specs.Figures.{figures_if, added_by, added_up}
+use Rattle.tables.specs.Figures.{figures_if, added_by}
 use Rattle.tables.specs.Keys.{count_if}
 use Rattle.tables.proofs.Adding.{added_ext, added-same, added_none, added-both, added_neg, added-map, added-pos, added_naturals, counted-one, swap, partition, figures-added, figures-none, carried_added, figures_under, figured_added, figured_each}
 use Rattle.terms.specs.declared.codes.Direction.TheVariants.{Sale, Purchase}
@@ -20,12 +20,13 @@ use Rattle.terms.specs.declared.records.Place.{Place}
 use Rattle.terms.specs.declared.records.Plant.{Plant}
 use Rattle.terms.specs.declared.records.Share.{Share}
 use Rattle.trades.specs.Laws.{beyond_area}
-use Rattle.trades.specs.Trades.{traded, own_of}
+use Rattle.trades.specs.Trades.{traded}
 use Rattle.trades.proofs.Cancelling.{trades_cancel}
 use Rattle.curtailment.proofs.Sums.{methods_agree_in_sum}
 use Rattle.division.specs.Terms.{Keeps}
-use Rattle.sharing.specs.Owners.{count_of}
-use Rattle.planning.specs.All.{PlansCorrected}
+use Rattle.sharing.specs.Owners.{count_of, added_up}
+use Rattle.sharing.proofs.Owning.{count_of-count_if, figures_of-figures_if, added_up-added_by}
+use Rattle.planning.specs.All.{own_of, PlansCorrected}
 use Rattle.planning.specs.Plans.{plan_from, plans_of_groups}
 use Rattle.planning.proofs.Sums.{groups-add_up}
 use Rattle.allotment.specs.Output.{allotted_to, is_at}
@@ -92,12 +93,12 @@ module _ (reads : ℕ → ℕ) (contracts : List Contract) (places : List Place)
   groups_even : (groups : List Group) (parts : List ℤ) → length parts ≡ length groups → AllByRecursion (λ g. SoundSort g.sort) groups →
       added_by (λ (z : SettledGroup). z.imbalance) (groups_settled reads contracts places shares allotted groups parts)
       +ℤ added_by (λ (z : SettledGroup). pos z.supplied) (groups_settled reads contracts places shares allotted groups parts)
-      ≡ (pos (sum_by (used_by reads contracts places) groups) +ℤ neg_ℤ (added_by (made_by shares allotted) groups)) +ℤ added_up parts
+      ≡ (pos (sum_by (used_by reads contracts places) groups) +ℤ neg_ℤ (added_by (made_by shares allotted) groups)) +ℤ added_by (λ x. x) parts
   groups_even groups parts l sound =
       sym (added-both (λ (z : SettledGroup). z.imbalance) (λ (z : SettledGroup). pos z.supplied) (groups_settled reads contracts places shares allotted groups parts))
       ∙ figured_added both (group_settled reads contracts places shares allotted) (λ (g : Group). pos (used g) +ℤ neg_ℤ (made g)) (λ x. x) groups parts l
       (All-weaker (λ (g : Group). SoundSort g.sort) (λ (g : Group). (x : ℤ) → both (group_settled reads contracts places shares allotted g x) ≡ (pos (used g) +ℤ neg_ℤ (made g)) +ℤ x) (λ g h. sort_even g.sort g.number h) groups sound)
-      ∙ ap (λ z. z +ℤ added_up parts) rows
+      ∙ ap (λ z. z +ℤ added_by (λ x. x) parts) rows
     where
       both : SettledGroup → ℤ
       both z = z.imbalance +ℤ pos z.supplied
@@ -207,15 +208,20 @@ module _ (first second : ℕ → List ℕ → List ℕ) (keeps : Keeps first) (f
   own_trades c = own_of c.number f.lines (trades f)
 
   abbrev parts_of : Contract → ℤ
-  parts_of c = added_up (plans_of_groups c.number f.groups parts)
+  parts_of c = added_by (λ x. x) (figures_if (λ (g : Group). eqb g.contract c.number) f.groups parts)
+
+  -- which is what the plans of its groups come to
+  parts_are : (c : Contract) → parts_of c ≡ added_up (plans_of_groups c.number f.groups parts)
+  parts_are c =
+      sym (added_up-added_by (plans_of_groups c.number f.groups parts) ∙ ap (λ zs. added_by (λ x. x) zs) (figures_of-figures_if (λ (g : Group). g.contract) c.number f.groups parts))
 
   contract_parts : (k : Kind) (c : Contract) → Grouped k (count_of (λ (g : Group). g.contract) c.number f.groups) → (1 ≤ count_of (λ (g : Group). g.contract) c.number f.groups → parts_of c ≡ own_trades c) →
       parts_of c +ℤ cond (is_retail k) (own_trades c) (pos 0) ≡ own_trades c
   contract_parts Generation c some adds = and_none (parts_of c) (own_trades c) (adds some)
-  contract_parts Retail c none adds = none_else (parts_of c) (own_trades c) (ap (λ zs. added_up zs) (figures-none (λ (g : Group). eqb g.contract c.number) f.groups parts none))
+  contract_parts Retail c none adds = none_else (parts_of c) (own_trades c) (ap (λ zs. added_by (λ x. x) zs) (figures-none (λ (g : Group). eqb g.contract c.number) f.groups parts (sym (count_of-count_if (λ (g : Group). g.contract) c.number f.groups) ∙ none)))
   contract_parts Negawatt c some adds = and_none (parts_of c) (own_trades c) (adds some)
 
-  parts_and_retail : added_up parts +ℤ added_by (retail_own f.lines (trades f)) f.contracts ≡ pos (beyond_area Sale f.lines) -ℤ pos (beyond_area Purchase f.lines)
+  parts_and_retail : added_by (λ x. x) parts +ℤ added_by (retail_own f.lines (trades f)) f.contracts ≡ pos (beyond_area Sale f.lines) -ℤ pos (beyond_area Purchase f.lines)
   parts_and_retail =
       ap (λ z. z +ℤ added_by (retail_own f.lines (trades f)) f.contracts) (sym (partition (λ (c : Contract) (g : Group). eqb g.contract c.number) (λ x. x) f.contracts f.groups parts l w.group_contracts))
       ∙ sym (added-both parts_of (retail_own f.lines (trades f)) f.contracts)
@@ -231,11 +237,11 @@ module _ (first second : ℕ → List ℕ → List ℕ) (keeps : Keeps first) (f
           (λ j d low h.
           let c : Contract = get_or f.contracts j d in
           contract_parts c.kind c (All-get_or has-groups f.contracts j d h w.contract_groups)
-          (groups-add_up first second keeps f.contracts f.lines (trades f) f.groups f.shares gb parts sb plans p j c h (get_or_default f.contracts j d c h)))
+          (λ some. parts_are c ∙ groups-add_up first second keeps f.contracts f.lines (trades f) f.groups f.shares gb parts sb plans p j c h (get_or_default f.contracts j d c h) some))
 
 pub area_total : AreaTotal
 area_total first second rule keeps_first keeps_rule reads f w gb parts sb plans lg ls p =
-    all_together (added_by (λ (z : SettledGroup). z.imbalance) settled) (added_by (λ (z : SettledGroup). pos z.supplied) settled) (added_by (given_to settled) f.contracts) (added_up parts)
+    all_together (added_by (λ (z : SettledGroup). z.imbalance) settled) (added_by (λ (z : SettledGroup). pos z.supplied) settled) (added_by (given_to settled) f.contracts) (added_by (λ x. x) parts)
     (added_by (made_by f.shares shared) f.groups) (added_by (λ (z : SettledContract). z.imbalance) (settled_contracts rule reads f parts plans)) (added_by (retail_own f.lines (trades f)) f.contracts)
     (pos (beyond_area Sale f.lines)) (pos (beyond_area Purchase f.lines)) (sum_by (λ (c : Contract). contract_demand reads f.places c.kind c) f.contracts) (sum_by (used_by reads f.contracts f.places) f.groups) (metered_output reads f)
     (groups_even reads f.contracts f.places f.shares shared f.groups parts lg w.sound)

@@ -1,5 +1,5 @@
 -- How large the figures of settled groups are, and what is read past the end of lists.
-use Rattle.std.proofs.Common.{◌≡◌, ℕ, ◌+◌, ◌-◌, ◌*◌, ◌≤◌, Bool, true, false, cond, ltb, List, [], ◌∷◌, length, ℤ, pos, ◌-ℤ◌, sum_by, refl, arith}
+use Rattle.std.proofs.Common.{ℕ, ◌-◌, ◌≤◌, Bool, true, false, cond, ltb, List, length, ℤ, pos, ◌-ℤ◌, arith}
 use Rattle.std.specs.List.{AllByRecursion}
 use Rattle.std.proofs.ByRecursion.{All-weaker, sum_by_le}
 use Rattle.tables.specs.Keys.{count_if}
@@ -17,7 +17,6 @@ use Rattle.terms.specs.declared.records.Owner.{Owner}
 use Rattle.terms.specs.declared.records.Place.{Place}
 use Rattle.terms.specs.declared.records.Share.{Share}
 use Rattle.curtailment.specs.Methods.{figures, settled_by}
-use Rattle.curtailment.specs.declared.methods.Settled.{Settled}
 use Rattle.settlement.specs.Groups.{of_group, group_demand, settled_as, group_settled, groups_settled, SoundSort}
 use Rattle.settlement.specs.Retailers.{supplied_to}
 use Rattle.settlement.specs.declared.groups.SettledGroup.{SettledGroup}

@@ -1,8 +1,7 @@
 -- What the places of an owner used, where each of them has a reading.
-use Rattle.std.proofs.Common.{◌≡◌, ℕ, ◌+◌, ◌*◌, ◌/◌, ◌<◌, ◌≤◌, Bool, true, false, cond, eqb, List, [], ◌∷◌, map, length, is_some, Some, None, Ok, Err, sum, Option, Result, sym, refl, ap, ◌∙◌, subst, mul-le-mul, arith}
+use Rattle.std.proofs.Common.{◌≡◌, ℕ, ◌+◌, ◌*◌, ◌≤◌, Bool, true, false, cond, eqb, List, [], ◌∷◌, map, length, is_some, Some, None, Ok, Err, sum, Option, Result, sym, refl, ap, ◌∙◌, mul-le-mul, arith}
 use Rattle.std.specs.List.{AllByRecursion}
 use Rattle.std.proofs.lemmas.Bool.{both_ways}
-use Rattle.tables.specs.Carried.{carried_if}
 use Rattle.tables.specs.Keys.{count_if, first_of}
 use Rattle.tables.proofs.Carrying.{sum-cons}
 use Rattle.metering.specs.Readings.{kwh_of}
@@ -16,7 +15,7 @@ use Rattle.settlement.specs.Demand.{kwh_read, meters_of, demand_by, multiplier_o
 
 -- what is read past the end of a list of places
 abbrev pub blank : Place
-blank = record { meter = 0; owner = record { kind = RetailContract; number = 0 } }
+blank = record { meter = 0; owner_kind = RetailContract; owner = 0 }
 
 module _ (read : ℕ → Option ℕ) where
   -- meters that all have a reading read what they read

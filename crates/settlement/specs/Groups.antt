@@ -1,5 +1,5 @@
 -- How a group is settled.
-use Rattle.std.specs.Prelude.{◌≡◌, ℕ, ◌≤◌, Bool, List, length, ℤ, pos, ◌+ℤ◌, ◌-ℤ◌, sum, Option, ◌==◌, unsigned_abs}
+use Rattle.std.specs.Prelude.{◌≡◌, ℕ, ◌≤◌, Bool, List, length, ℤ, pos, ◌-ℤ◌, sum, ◌==◌, unsigned_abs}
 use Rattle.std.specs.List.{AllByRecursion}
 use Rattle.tables.specs.Figures.{figures_if, figured_with}
 use Rattle.terms.specs.declared.codes.OwnerKind.TheVariants.{CurtailmentGroup}

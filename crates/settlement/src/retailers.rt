@@ -9,7 +9,6 @@ ghost use Rattle.settlement.specs.Retailers.{supplied_to, retail_settled, retail
 
 use crate::demand::demand_of;
 use crate::groups::SettledGroup;
-use curtailment::retail::retail_imbalance;
 use metering::source::MeterSource;
 use tables::totals::{Whose, total};
 use terms::codes::{Kind, OwnerKind};
@@ -51,7 +50,7 @@ fn settle_retail(supplied: u64, deemed_demand: i64) -> SettledContract
     requires { (supplied ≤ 14899200000) × (unsigned_abs deemed_demand ≤ 128000000) }
     ensures { result ≡ retail_settled supplied deemed_demand }
 {
-    let imbalance = retail_imbalance(supplied, deemed_demand);
+    let imbalance = supplied as i64 - deemed_demand;
     SettledContract {
         measured: supplied,
         imbalance,
@@ -63,7 +62,7 @@ fn settle_contract<S: MeterSource>(
     source: &S,
     places: &[Place],
     lines: &[Line],
-    figures: &[u64],
+    figures: &[u32],
     groups: &[SettledGroup],
     contract: &Contract,
 ) -> SettledContract
@@ -93,7 +92,7 @@ pub fn settle_contracts<S: MeterSource>(
     source: &S,
     places: &[Place],
     lines: &[Line],
-    figures: &[u64],
+    figures: &[u32],
     groups: &[SettledGroup],
     contracts: &[Contract],
     settled: &mut [SettledContract],

@@ -1,9 +1,10 @@
 -- Where the parts of one owner's rows stand after a whole is shared out, and what they come to, from the rule's terms alone.
-use Rattle.std.proofs.Common.{◌≡◌, ℕ, zero, suc, ◌+◌, ◌<◌, ◌≤◌, Bool, true, false, cond, eqb, List, [], ◌∷◌, map, length, get_or, drop, ℤ, pos, negsuc, ◌+ℤ◌, neg_ℤ, nat_abs, sum, sym, refl, ap, ◌∙◌, subst, arith}
+use Rattle.std.proofs.Common.{◌≡◌, ℕ, zero, suc, ◌+◌, ◌<◌, ◌≤◌, Bool, true, false, cond, eqb, List, [], ◌∷◌, map, length, get_or, drop, ℤ, pos, negsuc, ◌+ℤ◌, neg_ℤ, nat_abs, sum_by, sum, sym, refl, ap, ◌∙◌, subst, arith}
 use Rattle.std.specs.List.{AllByRecursion}
 use Rattle.std.proofs.lemmas.List.{length-map}
 use Rattle.std.proofs.ByRecursion.{All-map, All-weaker}
 use Rattle.std.proofs.lemmas.Int.{ints}
+use Rattle.std.proofs.lemmas.List.Sums.{sum_by-cons}
 use Rattle.std.proofs.lemmas.Bool.{eq-eqb, ne_eqb, eqb-true, cond-true, cond-false}
 use Rattle.tables.specs.Carried.{claims_of}
 use Rattle.tables.proofs.Carrying.{sum-cons}
@@ -111,6 +112,20 @@ own_sign (negsuc n) = refl
 signed_adds : (w : ℤ) (ps : List ℕ) → sum ps ≡ nat_abs w → added_up (signed_parts w ps) ≡ w
 signed_adds w ps e = signed_sum w ps ∙ ap (with_sign w) e ∙ own_sign w
 
+-- signed parts come to as much in magnitude as the parts
+magnitudes : (w : ℤ) (ps : List ℕ) → sum_by nat_abs (signed_parts w ps) ≡ sum ps
+magnitudes w [] = refl
+magnitudes w (p ∷ ps) = omega (arith, sum_by-cons nat_abs (with_sign w p) (signed_parts w ps), nat_abs-sign w p, magnitudes w ps, sum-cons p ps)
+
+sum-none : (ps : List ℕ) → length ps ≡ 0 → sum ps ≡ 0
+sum-none [] e = refl
+sum-none (p ∷ ps) e = absurd (omega arith)
+
+-- a rule gives out no more than the whole
+rule_light : (rule : ℕ → List ℕ → List ℕ) → Keeps rule → (whole : ℕ) (claims : List ℕ) → sum (rule whole claims) ≤ whole
+rule_light rule keeps whole [] = omega (arith, sum-none (rule whole []) (keeps.each whole []))
+rule_light rule keeps whole (c ∷ cs) = omega (arith, keeps.all whole (c ∷ cs) (omega arith))
+
 pub length-shared : {T : Type 0} (rule : ℕ → List ℕ → List ℕ) (owned carried : T → ℕ) (o : ℕ) (w : ℤ) (rows : List T) (xs : List ℤ) → length (shared rule owned carried o w rows xs) ≡ length xs
 length-shared rule owned carried o w rows xs = length-placed owned o rows (parts_for rule owned carried o w rows) xs
 
@@ -133,6 +148,10 @@ module _ {T : Type 0} (rule : ℕ → List ℕ → List ℕ) (keeps : Keeps rule
   all-within some =
       let low : AllByRecursion (λ p. p ≤ nat_abs w) (rule (nat_abs w) claims) = parts_small (rule (nat_abs w) claims) (nat_abs w) (nat_abs w) (keeps.all (nat_abs w) claims some) (omega arith) in
       All-map (λ (z : ℤ). nat_abs z ≤ nat_abs w) (with_sign w) (rule (nat_abs w) claims) (All-weaker (λ p. p ≤ nat_abs w) (λ p. nat_abs (with_sign w p) ≤ nat_abs w) (λ p q. omega (arith, nat_abs-sign w p)) (rule (nat_abs w) claims) low)
+
+  -- in magnitude the parts come to no more than the whole
+  pub parts-light : sum_by nat_abs parts ≤ nat_abs w
+  parts-light = omega (arith, magnitudes w (rule (nat_abs w) claims), rule_light rule keeps (nat_abs w) claims)
 
   module _ (xs : List ℤ) where
     -- parts given out by gathered claims

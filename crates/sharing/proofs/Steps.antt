@@ -1,28 +1,13 @@
--- The steps of the loops that gather an owner's claims and give the owner's rows their parts.
+-- The steps of the loop that gives the owner's rows their parts.
 use Rattle.std.proofs.Common.{◌≡◌, ℕ, ◌+◌, ◌<◌, ◌≤◌, Bool, true, false, cond, eqb, List, [], ◌∷◌, ◌++◌, length, get_or, take, drop, set, ℤ, pos, sym, refl, ap, ◌∙◌, arith}
 use Rattle.std.proofs.lemmas.List.{at_drop_more, drop_more, drop-drop, get_or-drop, get_or_default, take_more, take_more_set, append_assoc, append-nil, drop-set-lt, take_all, drop_all}
 use Rattle.std.proofs.lemmas.Bool.{eq-eqb, ne_eqb, cond-true, cond-false}
 use Rattle.tables.specs.Carried.{claims_of}
-use Rattle.tables.proofs.Carrying.{carried_yes, carried_no, carried_end}
 use Rattle.sharing.specs.Owners.{count_of, placed}
 
 module _ {T : Type 0} (owned : T → ℕ) (owner : ℕ) where
   -- the row at i, read as x, is the owner's or is not
   module _ (rows : List T) (i : ℕ) (x : T) (within : i < length rows) (read : x ≡ get_or rows i x) where
-    -- one turn of a loop that gathers what the owner's rows claim
-    pub gather_yes : (claimed : T → ℕ) (out out' all : List ℕ) (v : ℕ) → owned x ≡ owner → v ≡ claimed x → out' ≡ out ++ v ∷ [] →
-        out ++ claims_of owned claimed owner (drop i rows) ≡ all → out' ++ claims_of owned claimed owner (drop (i + 1) rows) ≡ all
-    gather_yes claimed out out' all v mine is pushed inv =
-        let rest : List ℕ = claims_of owned claimed owner (drop (i + 1) rows) in
-        ap (λ q. q ++ rest) pushed ∙ append_assoc out (v ∷ []) rest ∙ ap (λ y. out ++ y ∷ rest) is
-        ∙ sym (ap (λ q. out ++ q) (carried_yes (λ r. eqb (owned r) owner) claimed rows i x within read (eq-eqb (owned x) owner mine))) ∙ inv
-
-    pub gather_no : (claimed : T → ℕ) (out out' all : List ℕ) → (owned x ≡ owner → ⊥) → out' ≡ out →
-        out ++ claims_of owned claimed owner (drop i rows) ≡ all → out' ++ claims_of owned claimed owner (drop (i + 1) rows) ≡ all
-    gather_no claimed out out' all other same inv =
-        ap (λ q. q ++ claims_of owned claimed owner (drop (i + 1) rows)) same
-        ∙ sym (ap (λ q. out ++ q) (carried_no (λ r. eqb (owned r) owner) claimed rows i x within read (ne_eqb (owned x) owner other))) ∙ inv
-
     count_at : count_of owned owner (drop i rows) ≡ cond (eqb (owned x) owner) 1 0 + count_of owned owner (drop (i + 1) rows)
     count_at =
         at_drop_more (count_of owned owner) rows i x within
@@ -73,10 +58,6 @@ module _ {T : Type 0} (owned : T → ℕ) (owner : ℕ) where
         ∙ append_assoc (take i xs) (d ∷ []) rest
         ∙ sym (ap (λ q. take i xs ++ q) step)
         ∙ inv
-
-  pub gather_all : (claimed : T → ℕ) (rows : List T) (i : ℕ) (out all : List ℕ) → length rows ≤ i → out ++ claims_of owned claimed owner (drop i rows) ≡ all → out ≡ all
-  gather_all claimed rows i out all h inv =
-      sym (append-nil out) ∙ sym (ap (λ q. out ++ q) (carried_end (λ r. eqb (owned r) owner) claimed rows i h)) ∙ inv
 
   pub scatter_all : (rows : List T) (i : ℕ) (ps xs all : List ℤ) → length rows ≤ i → length xs ≤ i →
       take i xs ++ placed owned owner (drop i rows) ps (drop i xs) ≡ all → xs ≡ all

@@ -1,4 +1,6 @@
 // The sheet of a settled half hour: a header, and one record of comma-separated figures for each unit settled.
+#![tactic(auto)]
+
 ghost use Rattle.sheet.specs.Sheet.{Sheeted};
 
 use crate::room::fits;

@@ -1,6 +1,8 @@
 -- A search and a count, one row on; what a search tells of the row that it found, and of filing under its key.
-use Rattle.std.proofs.Common.{◌≡◌, ℕ, zero, suc, ◌+◌, ◌<◌, max, Bool, true, false, cond, List, [], ◌∷◌, ◌++◌, length, get_or, drop, set, Some, None, sym, refl, ap, ◌∙◌, subst, arith}
+use Rattle.std.proofs.Common.{◌≡◌, ℕ, zero, suc, ◌+◌, ◌-◌, ◌<◌, ◌≤◌, max, Bool, true, false, cond, ◌||◌, List, [], ◌∷◌, ◌++◌, length, get_or, drop, set, is_some, Some, None, sym, refl, ap, ◌∙◌, subst, arith}
+use Rattle.tables.specs.Apart.{has}
 use Rattle.tables.specs.Keys.{find_from, find, first_of, count_if}
+use Rattle.tables.specs.Figures.{figure_of}
 use Rattle.tables.specs.Filing.{upsert, Filed}
 use Rattle.tables.proofs.Steps.{at_row}
 
@@ -102,3 +104,39 @@ module _ {T : Type 0} (passes : T → Bool) where
           fitting = λ fresh keeps. filed-fitting fresh keeps rows;
         } in
         subst (Filed passes amend new rows) (sym e) there
+
+-- the figure beside the row that a search from n on answers
+pub figure-found : {T F : Type 0} (other : F) (passes : T → Bool) (rows : List T) (xs : List F) (n k : ℕ) → length xs ≡ length rows → find_from passes n rows ≡ Some k →
+    (n ≤ k) × (get_or xs (k - n) other ≡ figure_of other passes rows xs)
+figure-found other passes [] xs n k l e = absurd (let z : ◌≡◌ {A = ℕ} 0 1 = cc in omega arith)
+figure-found other passes (r ∷ rs) [] n k l e = absurd (omega arith)
+figure-found other passes (r ∷ rs) (x ∷ xs) n k l e = either (passes r) e (figure-found other passes rs xs (n + 1) k (omega arith))
+  where
+    either : (b : Bool) → cond b (Some n) (find_from passes (n + 1) rs) ≡ Some k → (find_from passes (n + 1) rs ≡ Some k → (n + 1 ≤ k) × (get_or xs (k - (n + 1)) other ≡ figure_of other passes rs xs)) →
+        (n ≤ k) × (get_or (x ∷ xs) (k - n) other ≡ cond b x (figure_of other passes rs xs))
+    either true e more =
+        let same : n ≡ k = cc in
+        let none : k - n ≡ 0 = omega arith in
+        (omega arith, ap (λ m. get_or (x ∷ xs) m other) none)
+    either false e more =
+        let rest = more e in
+        let on : k - n ≡ suc (k - (n + 1)) = omega (arith, rest.0) in
+        (omega (arith, rest.0), ap (λ m. get_or (x ∷ xs) m other) on ∙ rest.1)
+
+pub figure-absent : {T F : Type 0} (other : F) (passes : T → Bool) (rows : List T) (xs : List F) (n : ℕ) → find_from passes n rows ≡ None → figure_of other passes rows xs ≡ other
+figure-absent other passes [] xs n e = refl
+figure-absent other passes (r ∷ rs) [] n e = refl
+figure-absent other passes (r ∷ rs) (x ∷ xs) n e = either (passes r) e (figure-absent other passes rs xs (n + 1))
+  where
+    either : (b : Bool) → cond b (Some n) (find_from passes (n + 1) rs) ≡ None → (find_from passes (n + 1) rs ≡ None → figure_of other passes rs xs ≡ other) → cond b x (figure_of other passes rs xs) ≡ other
+    either true e more = absurd (let z : ◌≡◌ {A = ℕ} 0 1 = cc in omega arith)
+    either false e more = more e
+
+-- a search finds a row exactly where one passes
+pub found-has : {T : Type 0} (passes : T → Bool) (rows : List T) (n : ℕ) → is_some (find_from passes n rows) ≡ has passes rows
+found-has passes [] n = refl
+found-has passes (r ∷ rs) n = either (passes r) (found-has passes rs (n + 1))
+  where
+    either : (b : Bool) → is_some (find_from passes (n + 1) rs) ≡ has passes rs → is_some (cond b (Some n) (find_from passes (n + 1) rs)) ≡ (b || has passes rs)
+    either true more = refl
+    either false more = more

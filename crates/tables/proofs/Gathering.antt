@@ -1,5 +1,5 @@
 -- The steps of a loop that gathers the figures of the rows that pass, and what these come to at most.
-use Rattle.std.proofs.Common.{◌≡◌, ℕ, ◌+◌, ◌*◌, ◌<◌, ◌≤◌, Bool, true, false, cond, List, [], ◌∷◌, ◌++◌, length, get_or, drop, sum, sym, refl, ap, ◌∙◌, add-mul, one-mul, zero-mul, arith}
+use Rattle.std.proofs.Common.{◌≡◌, ℕ, suc, ◌+◌, ◌*◌, ◌<◌, ◌≤◌, Bool, true, false, cond, List, [], ◌∷◌, ◌++◌, length, get_or, drop, sum, sym, refl, ap, ◌∙◌, add-mul, one-mul, zero-mul, arith}
 use Rattle.std.proofs.lemmas.List.{at_drop_all, drop_more, append_assoc, append-nil}
 use Rattle.std.proofs.lemmas.Bool.{cond-true, cond-false, both_ways}
 use Rattle.std.specs.List.{AllByRecursion}
@@ -47,3 +47,12 @@ count_narrower narrow wide h (r ∷ rs) = go (narrow r) (wide r) refl refl (coun
     go true false p q k = absurd (both_ways (wide r) q (h r p))
     go false true p q k = omega arith
     go false false p q k = omega arith
+
+-- no more rows pass than there are
+pub count_few : {T : Type 0} (passes : T → Bool) (rows : List T) → count_if passes rows ≤ length rows
+count_few passes [] = omega arith
+count_few passes (r ∷ rs) = go (passes r) (count_few passes rs)
+  where
+    go : (b : Bool) → count_if passes rs ≤ length rs → cond b 1 0 + count_if passes rs ≤ suc (length rs)
+    go true h = omega arith
+    go false h = omega arith

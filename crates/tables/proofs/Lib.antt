@@ -4,3 +4,4 @@ pub mod Finding
 pub mod Writing
 pub mod Apartness
 pub mod Gathering
+pub mod Adding

@@ -1,11 +1,15 @@
 // Figures beside rows: what was computed for a row stands at the row's place.
-ghost use Rattle.std.specs.Prelude.{◌≡◌, ◌≤◌, length};
-ghost use Rattle.tables.specs.Figures.{figures_if};
+ghost use Rattle.std.specs.Prelude.{◌≡◌, ◌^◌, ◌<◌, ◌≤◌, length, sum};
+ghost use Rattle.tables.specs.Figures.{figures_if, figure_of};
 ghost use Rattle.tables.specs.Keys.{count_if};
 ghost use Rattle.tables.specs.Listed.{listed};
 
 use crate::Table;
-use crate::keys::Keyed;
+use crate::keys::{Keyed, find_first};
+use crate::totals::{Whose, total};
+
+// No table of a book has more rows.
+pub const MOST_ROWS: usize = 512;
 
 // The figures of the rows that the key fits, in listed order. Callers are proved to have a figure for each row, and no more rows that fit than the table has places.
 pub fn gather_fitting<K: Copy, T: Keyed<K>, const N: usize>(
@@ -25,4 +29,47 @@ pub fn gather_fitting<K: Copy, T: Keyed<K>, const N: usize>(
         }
     }
     gathered
+}
+
+// The same of wider figures. Callers are proved to have a figure for each row, and no more rows that fit than the table has places.
+fn gather_figures<K: Copy, T: Keyed<K>, const N: usize>(
+    rows: &[T],
+    key: K,
+    figures: &[u64],
+) -> Table<u64, N>
+    requires room { length figures.now ≡ length rows.now }
+    requires few { count_if (T.Keyed.fits key) rows.now ≤ N }
+    ensures { listed result ≡ figures_if (T.Keyed.fits key) rows.now figures.now }
+{
+    let mut gathered: Table<u64, N> = Table::new(0);
+    for i in 0..rows.len() {
+        let row = &rows[i];
+        if row.is(key) {
+            gathered.push(figures[i]);
+        }
+    }
+    gathered
+}
+
+// The figure of the first row that the key fits, 0 where it fits none. Callers are proved to have a figure for each row.
+pub fn figure_of<K: Copy, T: Keyed<K>>(rows: &[T], key: K, figures: &[u64]) -> u64
+    requires { length figures.now ≡ length rows.now }
+    ensures { result ≡ figure_of 0 (T.Keyed.fits key) rows.now figures.now }
+{
+    match find_first(rows, key) {
+        Some(i) => figures[i],
+        None => 0,
+    }
+}
+
+// What the figures of the rows that the key fits come to. Callers are proved to have a figure for each row, no more rows than a book's tables take,
+// and figures whose total fits.
+pub fn total_fitting<K: Copy, T: Keyed<K>>(rows: &[T], key: K, figures: &[u64]) -> u64
+    requires room { length figures.now ≡ length rows.now }
+    requires few { length rows.now ≤ 512 }
+    requires light { sum (figures_if (T.Keyed.fits key) rows.now figures.now) < 2 ^ 64 }
+    ensures { result ≡ sum (figures_if (T.Keyed.fits key) rows.now figures.now) }
+{
+    let gathered: Table<u64, MOST_ROWS> = gather_figures(rows, key, figures);
+    total(gathered.as_slice(), Whose::Everyone)
 }

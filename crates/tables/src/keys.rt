@@ -1,5 +1,6 @@
 // Rows that a key finds: the first of them, and how many there are.
 ghost use Rattle.std.specs.Prelude.{◌≡◌, Bool};
+ghost use Rattle.tables.specs.Apart.{has};
 ghost use Rattle.tables.specs.Keys.{count_if, find, first_of};
 
 // A row that a key fits or does not.
@@ -30,6 +31,13 @@ pub fn find_row<K: Copy, T: Copy + Keyed<K>>(rows: &[T], key: K) -> Option<T>
         Some(i) => Some(rows[i]),
         None => None,
     }
+}
+
+// Whether the key fits any row.
+pub fn any_fits<K: Copy, T: Keyed<K>>(rows: &[T], key: K) -> bool
+    ensures { result ≡ has (T.Keyed.fits key) rows.now }
+{
+    find_first(rows, key).is_some()
 }
 
 // How many rows the key fits.

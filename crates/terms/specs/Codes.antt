@@ -1,5 +1,5 @@
 -- The codes by which callers name the cases: one definition for each.
-use Rattle.std.specs.Prelude.{ℕ, cond, ◌==◌}
+use Rattle.std.specs.Prelude.{ℕ, cond, Some, None, Option, ◌==◌}
 use Rattle.terms.specs.declared.codes.Kind.{Kind}
 use Rattle.terms.specs.declared.codes.Kind.TheVariants.{Generation, Retail, Negawatt}
 use Rattle.terms.specs.declared.codes.Direction.{Direction}
@@ -25,6 +25,19 @@ owner_code CurtailmentGroup = 2
 abbrev pub method_code : Method → ℕ
 method_code One = 1
 method_code Two = 2
+
+-- The case with a code, if any has it.
+abbrev pub kind_of : ℕ → Option Kind
+kind_of code = cond (code == kind_code Generation) (Some Generation) (cond (code == kind_code Retail) (Some Retail) (cond (code == kind_code Negawatt) (Some Negawatt) None))
+
+abbrev pub direction_of : ℕ → Option Direction
+direction_of code = cond (code == direction_code Sale) (Some Sale) (cond (code == direction_code Purchase) (Some Purchase) None)
+
+abbrev pub owner_kind_of : ℕ → Option OwnerKind
+owner_kind_of code = cond (code == owner_code RetailContract) (Some RetailContract) (cond (code == owner_code CurtailmentGroup) (Some CurtailmentGroup) None)
+
+abbrev pub method_of : ℕ → Option Method
+method_of code = cond (code == method_code One) (Some One) (cond (code == method_code Two) (Some Two) None)
 
 -- A method that is not stated, 0, counts as 1.
 abbrev pub stated : ℕ → ℕ

@@ -3,3 +3,4 @@ pub mod Text
 pub mod Codes
 pub mod Partners
 pub mod Plans
+pub mod Owners

@@ -29,6 +29,14 @@ impl Balance {
         self.own
     }
 
+    // Purchases less sales: the deemed demand of a retail contract.
+    pub fn deemed_demand(&self) -> i64
+        ensures { result ≡ pos self.now.bought -ℤ pos self.now.sold }
+    {
+        let Balance { bought, sold, .. } = *self;
+        i64::from(bought) - i64::from(sold)
+    }
+
     pub fn bought(&self) -> u32
         ensures { result ≡ self.now.bought }
     {

@@ -1,6 +1,6 @@
 // The cases of the trade that callers name by a code: kinds of contract, directions, kinds of owner, methods.
-ghost use Rattle.std.specs.Prelude.{◌≡◌, ℕ, MatchOption, ◌≢◌};
-ghost use Rattle.terms.specs.Codes.{kind_code, direction_code, owner_code, method_code, stated};
+ghost use Rattle.std.specs.Prelude.{◌≡◌, ℕ, Option as Maybe, MatchOption, ◌≢◌};
+ghost use Rattle.terms.specs.Codes.{kind_code, direction_code, owner_code, method_code, kind_of, direction_of, owner_kind_of, method_of, stated};
 
 // What a contract is.
 #[derive(Clone, Copy)]
@@ -35,13 +35,19 @@ pub enum Method {
 pub trait Coded: Sized {
     ghost coded: { Self → ℕ };
 
+    // the case with a code, if any has it
+    ghost decoded: { ℕ → Maybe Self };
+
     // The case with this code, or none where no case has it.
     fn from_code(code: u32) -> Option<Self>
-        ensures { MatchOption result ((x : Self) → coded x ≢ code) (λ x. coded x ≡ code) };
+        ensures exact { result ≡ decoded code }
+        ensures case { MatchOption result ((x : Self) → coded x ≢ code) (λ x. coded x ≡ code) };
 }
 
 impl Coded for Kind {
     ghost coded = { kind_code };
+
+    ghost decoded = { kind_of };
 
     fn from_code(code: u32) -> Option<Kind> {
         match code {
@@ -56,6 +62,8 @@ impl Coded for Kind {
 impl Coded for Direction {
     ghost coded = { direction_code };
 
+    ghost decoded = { direction_of };
+
     fn from_code(code: u32) -> Option<Direction> {
         match code {
             1 => Some(Direction::Sale),
@@ -68,6 +76,8 @@ impl Coded for Direction {
 impl Coded for OwnerKind {
     ghost coded = { owner_code };
 
+    ghost decoded = { owner_kind_of };
+
     fn from_code(code: u32) -> Option<OwnerKind> {
         match code {
             1 => Some(OwnerKind::RetailContract),
@@ -79,6 +89,8 @@ impl Coded for OwnerKind {
 
 impl Coded for Method {
     ghost coded = { method_code };
+
+    ghost decoded = { method_of };
 
     fn from_code(code: u32) -> Option<Method> {
         match code {
@@ -105,7 +117,8 @@ impl Kind {
 impl Method {
     // The method that is filed by this code; 0, unstated, counts as 1.
     pub fn filed(code: u32) -> Option<Method>
-        ensures { MatchOption result ((m : Method) → method_code m ≢ stated code) (λ m. method_code m ≡ stated code) }
+        ensures exact { result ≡ method_of (stated code) }
+        ensures case { MatchOption result ((m : Method) → method_code m ≢ stated code) (λ m. method_code m ≡ stated code) }
     {
         if code == 0 {
             Some(Method::One)

@@ -1,9 +1,12 @@
 // Records of a book, as they are filed, and what they are to totals and divisions.
+ghost use Rattle.std.specs.Prelude.{◌≡◌};
+ghost use Rattle.terms.specs.Owners.{same_kind, is_of};
 ghost use Rattle.terms.specs.Plans.{claim_in};
 
 use crate::codes::{Direction, Kind, Method, OwnerKind};
 use crate::partner::Partner;
 use tables::bounds::{Carries, Head, Owned};
+use tables::keys::Keyed;
 
 // A contract: a party's standing in the area. Only a retail contract's loss multiplier, in ten-thousandths, is used.
 #[derive(Clone, Copy)]
@@ -63,6 +66,13 @@ pub struct Line {
     pub agreed: u32,
 }
 
+// What a place belongs to: a retail contract or a curtailment group, by its number.
+#[derive(Clone, Copy)]
+pub struct Owner {
+    pub kind: OwnerKind,
+    pub number: u32,
+}
+
 // A place: a metered customer site of a retail contract or a curtailment group.
 #[derive(Clone, Copy)]
 pub struct Place {
@@ -112,5 +122,25 @@ impl Head for Group {
             GroupSort::Generation => together,
             GroupSort::Curtailment(curtailment) => u64::from(curtailment.plan),
         }
+    }
+}
+
+// Whether two owners are of one kind.
+fn is_same_kind(one: OwnerKind, other: OwnerKind) -> bool
+    ensures { result ≡ same_kind one other }
+{
+    match (one, other) {
+        (OwnerKind::RetailContract, OwnerKind::RetailContract) => true,
+        (OwnerKind::CurtailmentGroup, OwnerKind::CurtailmentGroup) => true,
+        _ => false,
+    }
+}
+
+// A place is found by its owner.
+impl Keyed<Owner> for Place {
+    ghost fits = { is_of };
+
+    fn is(&self, key: Owner) -> bool {
+        is_same_kind(key.kind, self.owner_kind) & (self.owner == key.number)
     }
 }

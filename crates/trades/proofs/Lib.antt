@@ -1,2 +1,3 @@
 pub mod Opposites
+pub mod Cancelling
 pub mod Sums

@@ -46,24 +46,24 @@ turned-sym Sale Purchase = refl
 turned-sym Purchase Sale = refl
 turned-sym Purchase Purchase = refl
 
-record Facing (l m : Line) : Type 0 where
-  mine : faces l.partner m.contract ≡ true
-  yours : faces m.partner l.contract ≡ true
-  ways : turned l.direction m.direction ≡ true
+pub record Facing (l m : Line) : Type 0 where
+  pub mine : faces l.partner m.contract ≡ true
+  pub yours : faces m.partner l.contract ≡ true
+  pub ways : turned l.direction m.direction ≡ true
 
-facing : (l m : Line) → opposite l m ≡ true → Facing l m
+pub facing : (l m : Line) → opposite l m ≡ true → Facing l m
 facing l m o =
     let p = and_parts (faces l.partner m.contract && faces m.partner l.contract) (turned l.direction m.direction) o in
     let q = and_parts (faces l.partner m.contract) (faces m.partner l.contract) p.0 in
     record { mine = q.0; yours = q.1; ways = p.1 }
 
-opposite-back : (l m : Line) → opposite l m ≡ true → opposite m l ≡ true
+pub opposite-back : (l m : Line) → opposite l m ≡ true → opposite m l ≡ true
 opposite-back l m o =
     let p = facing l m o in
     and_from _ _ (and_from _ _ p.yours p.mine) (turned-sym m.direction l.direction ∙ p.ways)
 
 -- a line has at most one opposite
-opposite-once : (ls : List Line) → apart same_line ls ≡ true → (l : Line) → count_if (opposite l) ls ≤ 1
+pub opposite-once : (ls : List Line) → apart same_line ls ≡ true → (l : Line) → count_if (opposite l) ls ≤ 1
 opposite-once ls w l = count_apart same_line (opposite l) ls w same
   where
     same : (x y : Line) → opposite l x ≡ true → opposite l y ≡ true → same_line x y ≡ true

@@ -1,5 +1,5 @@
 -- Corrected trades: the figure of each line, and what a contract sold and bought.
-use Rattle.std.specs.Prelude.{ℕ, min, Bool, true, false, not, ◌&&◌, List, Some, None, sum, Option, ◌==◌, nat_eq}
+use Rattle.std.specs.Prelude.{ℕ, min, Bool, true, false, not, ◌&&◌, List, ℤ, pos, ◌-ℤ◌, Some, None, sum, Option, ◌==◌, nat_eq}
 use Rattle.tables.specs.Keys.{first_of, count_if}
 use Rattle.tables.specs.Figures.{figures_if}
 use Rattle.terms.specs.declared.codes.Direction.{Direction}
@@ -46,6 +46,10 @@ trades_of direction contract l = l.contract == contract && not (turned direction
 -- What the contract's lines of one direction come to, by the figures that stand beside the lines.
 abbrev pub traded : Direction → ℕ → List Line → List ℕ → ℕ
 traded direction contract lines figures = sum (figures_if (trades_of direction contract) lines figures)
+
+-- A contract's corrected sales less purchases.
+abbrev pub net_of : ℕ → List Line → List ℕ → ℤ
+net_of contract lines figures = pos (traded Sale contract lines figures) -ℤ pos (traded Purchase contract lines figures)
 
 -- How many lines the contract has.
 abbrev pub lines_of : ℕ → List Line → ℕ

@@ -1,7 +1,7 @@
-use Rattle.std.proofs.Common.{◌≡◌, length, sum, sym, ap, ◌∙◌, arith}
+use Rattle.std.proofs.Common.{length, sum, sym, ap, ◌∙◌, arith}
 use lib.ListN.{length-map}
 use Rattle.allotment.specs.declared.claims.Claim.{Claim}
-use Rattle.allotment.specs.Output.{amounts, turns_at}
+use Rattle.allotment.specs.Output.{amounts}
 use Rattle.allotment.proofs.Turns.{turns_stay_within}
 use Rattle.allotment.proofs.output.allot_plant.Goals as goal
 

@@ -1,4 +1,4 @@
-use Rattle.std.proofs.Common.{◌≡◌, sym, ap, arith}
+use Rattle.std.proofs.Common.{sym, ap, arith}
 use Rattle.metering.specs.Readings.{kwh_of}
 use Rattle.allotment.proofs.output.kwh_of.Goals as goal
 

@@ -1,4 +1,4 @@
-use Rattle.std.proofs.Common.{◌<◌, ◌≤◌, length, get_or, ℤ, pos, nat_abs, ap, arith}
+use Rattle.std.proofs.Common.{◌<◌, ◌≤◌, length, get_or, pos, nat_abs, ap, arith}
 use Rattle.std.proofs.ByRecursion.{All-get_or}
 use Rattle.terms.specs.declared.records.Group.{Group}
 use Rattle.terms.specs.declared.records.GroupSort.TheVariants.{Generation}

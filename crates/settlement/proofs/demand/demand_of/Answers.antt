@@ -1,4 +1,4 @@
-use Rattle.std.proofs.Common.{◌≡◌, ℕ, ◌≤◌, sym, ap, ◌∙◌, subst, arith}
+use Rattle.std.proofs.Common.{◌≡◌, sym, ap, ◌∙◌, arith}
 use Rattle.metering.specs.Demand.{demand_of}
 use Rattle.settlement.specs.Demand.{kwh_read, demand_by}
 use Rattle.settlement.proofs.Metering.{demand-read, reads_small, demand-small, never_both}

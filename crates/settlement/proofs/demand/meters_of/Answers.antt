@@ -1,4 +1,4 @@
-use Rattle.std.proofs.Common.{◌≡◌, length, get_or, sym, refl, ap, ◌∙◌, arith, lit<}
+use Rattle.std.proofs.Common.{length, get_or, sym, refl, ap, ◌∙◌, arith, lit<}
 use Rattle.std.proofs.lemmas.List.{length_push, get_or_default}
 use Rattle.tables.specs.Listed.{listed}
 use Rattle.tables.proofs.Carrying.{gather_yes, gather_no, gather_all}
@@ -7,7 +7,7 @@ use Rattle.terms.specs.Owners.{is_of}
 use Rattle.terms.specs.declared.records.Place.{Place}
 use Rattle.settlement.proofs.Metering.{blank}
 use Rattle.settlement.proofs.demand.meters_of.Goals as goal
-use Rattle.settlement.proofs.demand.meters_of.Goals.{then_is, else_is}
+use Rattle.settlement.proofs.demand.meters_of.Goals.{then-is, else-is}
 
 pub push-requires : goal.push-requires
 push-requires c =
@@ -27,13 +27,13 @@ loop-place-preserved c =
     let out = listed c.loop-place.meters in
     let on = count_on (is_of c.args.owner) places i p c.is.result c.loop-place-test.true read c.is.ensures in
     elim c.if-is.branch [
-      | then_is w ↦
+      | then-is w ↦
           let here = simp w.if-is.true at on in
           let pushed = ap listed w.meters-is ∙ w.push.ensures in (
             omega (arith, ap length pushed, length_push out p.meter, here, c.loop-place.invariant.0),
             gather_yes (is_of c.args.owner) (λ (q : Place). q.meter) places i p c.loop-place-test.true read out _ _ p.meter (sym c.is.ensures ∙ w.if-is.true) refl pushed c.loop-place.invariant.1,
           )
-      | else_is w ↦
+      | else-is w ↦
           let here = simp w.if-is.false at on in
           let same = ap listed w.meters-is in (
             omega (arith, ap length same, here, c.loop-place.invariant.0),

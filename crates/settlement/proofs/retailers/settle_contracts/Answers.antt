@@ -1,4 +1,4 @@
-use Rattle.std.proofs.Common.{◌≡◌, ◌≤◌, get_or, arith}
+use Rattle.std.proofs.Common.{◌≤◌, arith}
 use Rattle.std.proofs.ByRecursion.{All-get_or}
 use Rattle.tables.proofs.Writing.{written_more, written_all}
 use Rattle.terms.specs.declared.records.Contract.{Contract}

@@ -1,4 +1,4 @@
-use Rattle.std.proofs.Common.{◌≡◌, ◌+◌, ap, ◌∙◌, arith}
+use Rattle.std.proofs.Common.{◌+◌, ap, ◌∙◌, arith}
 use Rattle.settlement.specs.Demand.{kwh_read, demand_by}
 use Rattle.settlement.specs.Retailers.{of_contract}
 use Rattle.settlement.proofs.Grouping.{supplied-light}

@@ -5,8 +5,8 @@ use Rattle.sheet.specs.Sheet.{header_text, rows_text, sheet_text}
 use Rattle.sheet.proofs.Rows.{header_long, rest_more}
 use Rattle.sheet.proofs.room.fits.Goals as goal
 
-pub returns-then-room-lt-HEADER-LENGTH : goal.returns-then-room-lt-HEADER-LENGTH
-returns-then-room-lt-HEADER-LENGTH c =
+pub returns-then-room-lt-HEADER_LENGTH : goal.returns-then-room-lt-HEADER_LENGTH
+returns-then-room-lt-HEADER_LENGTH c =
     sym (lt-leb (length (sheet_text c.args.rows.now)) c.args.room (omega (arith, header_long, length-append header_text (rows_text c.args.rows.now))))
 
 pub loop-row-init : goal.loop-row-init

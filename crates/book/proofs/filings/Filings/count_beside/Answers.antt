@@ -1,4 +1,4 @@
-use Rattle.std.proofs.Common.{◌≡◌, ℕ, eqb, List, ap, ◌∙◌}
+use Rattle.std.proofs.Common.{ℕ, eqb, List, ap, ◌∙◌}
 use Rattle.tables.specs.Keys.{count_if}
 use Rattle.tables.specs.Listed.{listed}
 use Rattle.terms.specs.declared.records.Group.{Group}

@@ -1,5 +1,4 @@
 use Rattle.std.proofs.Common.{leb, lit<}
-use Rattle.tables.specs.Listed.{listed}
 use Rattle.book.specs.Looking.{is_share, contract_of_group, shares_of_contract}
 use Rattle.book.specs.View.{filed}
 use Rattle.book.proofs.Room.{room_left}
