@@ -19,7 +19,7 @@ use Rattle.terms.specs.declared.records.Line.{Line}
 use Rattle.terms.specs.declared.records.Place.{Place}
 use Rattle.terms.specs.declared.records.Plant.{Plant}
 use Rattle.terms.specs.declared.records.Share.{Share}
-use Rattle.trades.specs.Laws.{beyond_area}
+use Rattle.trades.specs.Beyond.{beyond_area}
 use Rattle.trades.specs.Trades.{traded}
 use Rattle.trades.proofs.Cancelling.{trades_cancel}
 use Rattle.curtailment.proofs.Sums.{methods_agree_in_sum}

@@ -15,7 +15,8 @@ use Rattle.terms.specs.declared.records.Line.{Line}
 use Rattle.terms.specs.declared.records.Place.{Place}
 use Rattle.terms.specs.declared.records.Plant.{Plant}
 use Rattle.terms.specs.declared.records.Share.{Share}
-use Rattle.trades.specs.Laws.{same_line, beyond_area}
+use Rattle.trades.specs.Laws.{same_line}
+use Rattle.trades.specs.Beyond.{beyond_area}
 use Rattle.trades.specs.Trades.{corrected}
 use Rattle.division.specs.Terms.{Keeps}
 use Rattle.sharing.specs.Owners.{count_of}

@@ -14,7 +14,8 @@ use Rattle.terms.specs.declared.partner.Partner.TheVariants.{Exchange, Outside, 
 use Rattle.terms.specs.declared.records.Contract.{Contract}
 use Rattle.terms.specs.declared.records.Line.{Line}
 use Rattle.trades.specs.Trades.{turned, faces, opposite, planned_by, corrected_with, corrected, net_of}
-use Rattle.trades.specs.Laws.{same_line, beyond, beyond_area, TradesCancel}
+use Rattle.trades.specs.Laws.{same_line}
+use Rattle.trades.specs.Beyond.{beyond, beyond_area, TradesCancel}
 use Rattle.trades.proofs.Opposites.{facing, opposite-back, opposite-once}
 
 -- a sale counts as it is, a purchase below zero

@@ -1,5 +1,6 @@
 // The laws of corrected trades, carried by contracts so that the gate asks for their proofs.
-ghost use Rattle.trades.specs.Laws.{OppositesAgree, AloneIsZero, TradesCancel};
+ghost use Rattle.trades.specs.Laws.{OppositesAgree, AloneIsZero};
+ghost use Rattle.trades.specs.Beyond.{TradesCancel};
 
 // Two opposite lines get the same corrected figure.
 fn opposites_agree()
