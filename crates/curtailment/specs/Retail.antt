@@ -3,4 +3,4 @@ use Rattle.std.specs.Prelude.{ℕ, ℤ, pos, ◌-ℤ◌}
 
 -- What was supplied less the deemed demand: positive is shortage.
 abbrev pub retail_imbalance : ℕ → ℤ → ℤ
-retail_imbalance supplied deemed_demand_of = pos supplied -ℤ deemed_demand_of
+retail_imbalance supplied deemed_demand = pos supplied -ℤ deemed_demand
