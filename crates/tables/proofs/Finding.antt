@@ -1,4 +1,5 @@
 -- A search and a count, one row on; what a search tells of the row that it found, and of filing under its key.
+use Rattle.std.specs.List.{filter}
 use Rattle.std.proofs.Common.{◌≡◌, ℕ, zero, suc, ◌+◌, ◌-◌, ◌<◌, ◌≤◌, max, Bool, true, false, cond, ◌||◌, List, [], ◌∷◌, ◌++◌, length, get_or, drop, set, is_some, Some, None, sym, refl, ap, ◌∙◌, subst, arith}
 use Rattle.tables.specs.Apart.{has}
 use Rattle.tables.specs.Keys.{find_from, find, first_of, count_if}
@@ -140,3 +141,12 @@ found-has passes (r ∷ rs) n = either (passes r) (found-has passes rs (n + 1))
     either : (b : Bool) → is_some (find_from passes (n + 1) rs) ≡ has passes rs → is_some (cond b (Some n) (find_from passes (n + 1) rs)) ≡ (b || has passes rs)
     either true more = refl
     either false more = more
+
+-- as many rows pass as are left by filtering
+pub length-filtered : {T : Type 0} (passes : T → Bool) (rows : List T) → length (filter passes rows) ≡ count_if passes rows
+length-filtered passes [] = refl
+length-filtered passes (r ∷ rs) = either (passes r) (length-filtered passes rs)
+  where
+    either : (b : Bool) → length (filter passes rs) ≡ count_if passes rs → length (cond b (r ∷ filter passes rs) (filter passes rs)) ≡ cond b 1 0 + count_if passes rs
+    either true e = omega (arith, e)
+    either false e = omega (arith, e)

@@ -5,3 +5,4 @@ pub mod Writing
 pub mod Apartness
 pub mod Gathering
 pub mod Adding
+pub mod Collecting

@@ -1,12 +1,11 @@
 -- Rows that are told apart, and rows whose owners are known.
-use Rattle.std.specs.Prelude.{◌≡◌, ℕ, Bool, true, false, not, ◌&&◌, ◌||◌, List, [], ◌∷◌, nat_eq}
-use Rattle.std.specs.List.{AllByRecursion}
+use Rattle.std.specs.Prelude.{◌≡◌, ℕ, Bool, true, not, ◌&&◌, List, [], ◌∷◌, nat_eq}
+use Rattle.std.specs.List.{AllByRecursion, list_any}
 use Rattle.tables.specs.Keys.{count_if}
 
 -- Whether a row passes.
 abbrev pub has : {T : Type 0} → (T → Bool) → List T → Bool
-has passes [] = false
-has passes (r ∷ rs) = passes r || has passes rs
+has passes rows = list_any passes rows
 
 -- No two rows are the same.
 abbrev pub apart : {T : Type 0} → (T → T → Bool) → List T → Bool

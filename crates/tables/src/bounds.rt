@@ -31,12 +31,31 @@ pub trait Head: Owned {
         ensures { result ≡ claimed self.now together };
 }
 
-// A figure by itself carries itself, and belongs to nobody.
+// The owner of what belongs to nobody.
+const NOBODY: u32 = 0;
+
+// A figure by itself, of either width, carries itself and belongs to nobody.
+impl Owned for u32 {
+    ghost owned = { λ _. 0 };
+
+    fn owner(&self) -> u32 {
+        NOBODY
+    }
+}
+
+impl Carries for u32 {
+    ghost carried = { λ x. x };
+
+    fn kwh(&self) -> u64 {
+        u64::from(*self)
+    }
+}
+
 impl Owned for u64 {
     ghost owned = { λ _. 0 };
 
     fn owner(&self) -> u32 {
-        0
+        NOBODY
     }
 }
 

@@ -5,50 +5,31 @@ ghost use Rattle.tables.specs.Keys.{count_if};
 ghost use Rattle.tables.specs.Listed.{listed};
 
 use crate::Table;
-use crate::keys::{Keyed, find_first};
+use crate::keys::Keyed;
 use crate::totals::{Whose, total};
 
 // No table of a book has more rows.
 pub const MOST_ROWS: usize = 512;
 
-// The figures of the rows that the key fits, in listed order. Callers are proved to have a figure for each row, and no more rows that fit than the table has places.
-pub fn gather_fitting<K: Copy, T: Keyed<K>, const N: usize>(
+// The figures of the rows that the key fits, in listed order; the blank figure fills the other places.
+// Callers are proved to have a figure for each row, and no more rows that fit than the table has places.
+pub fn gather_fitting<K: Copy, T: Keyed<K>, F: Copy, const N: usize>(
     rows: &[T],
     key: K,
-    figures: &[u32],
-) -> Table<u64, N>
+    figures: &[F],
+    blank: F,
+) -> Table<F, N>
     requires room { length figures.now ≡ length rows.now }
     requires few { count_if (T.Keyed.fits key) rows.now ≤ N }
     ensures { listed result ≡ figures_if (T.Keyed.fits key) rows.now figures.now }
 {
-    let mut gathered: Table<u64, N> = Table::new(0);
-    for i in 0..rows.len() {
-        let row = &rows[i];
-        if row.is(key) {
-            gathered.push(u64::from(figures[i]));
-        }
-    }
-    gathered
-}
-
-// The same of wider figures. Callers are proved to have a figure for each row, and no more rows that fit than the table has places.
-fn gather_figures<K: Copy, T: Keyed<K>, const N: usize>(
-    rows: &[T],
-    key: K,
-    figures: &[u64],
-) -> Table<u64, N>
-    requires room { length figures.now ≡ length rows.now }
-    requires few { count_if (T.Keyed.fits key) rows.now ≤ N }
-    ensures { listed result ≡ figures_if (T.Keyed.fits key) rows.now figures.now }
-{
-    let mut gathered: Table<u64, N> = Table::new(0);
-    for i in 0..rows.len() {
-        let row = &rows[i];
-        if row.is(key) {
-            gathered.push(figures[i]);
-        }
-    }
-    gathered
+    Table::collect(
+        rows.iter()
+            .zip(figures)
+            .filter(|(row, _)| row.is(key))
+            .map(|(_, figure)| *figure),
+        blank,
+    )
 }
 
 // The figure of the first row that the key fits, 0 where it fits none. Callers are proved to have a figure for each row.
@@ -56,10 +37,10 @@ pub fn figure_of<K: Copy, T: Keyed<K>>(rows: &[T], key: K, figures: &[u64]) -> u
     requires { length figures.now ≡ length rows.now }
     ensures { result ≡ figure_of 0 (T.Keyed.fits key) rows.now figures.now }
 {
-    match find_first(rows, key) {
-        Some(i) => figures[i],
-        None => 0,
-    }
+    let mut beside = rows.iter().zip(figures);
+    beside
+        .find(|(row, _)| row.is(key))
+        .map_or(0, |(_, figure)| *figure)
 }
 
 // What the figures of the rows that the key fits come to. Callers are proved to have a figure for each row, no more rows than a book's tables take,
@@ -70,6 +51,6 @@ pub fn total_fitting<K: Copy, T: Keyed<K>>(rows: &[T], key: K, figures: &[u64]) 
     requires light { sum (figures_if (T.Keyed.fits key) rows.now figures.now) < 2 ^ 64 }
     ensures { result ≡ sum (figures_if (T.Keyed.fits key) rows.now figures.now) }
 {
-    let gathered: Table<u64, MOST_ROWS> = gather_figures(rows, key, figures);
+    let gathered: Table<u64, MOST_ROWS> = gather_fitting(rows, key, figures, 0);
     total(gathered.as_slice(), Whose::Everyone)
 }

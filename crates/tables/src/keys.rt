@@ -15,40 +15,26 @@ pub trait Keyed<K> {
 pub fn find_first<K: Copy, T: Keyed<K>>(rows: &[T], key: K) -> Option<usize>
     ensures { result ≡ find (T.Keyed.fits key) rows.now }
 {
-    for (i, row) in rows.iter().enumerate() {
-        if row.is(key) {
-            return Some(i);
-        }
-    }
-    None
+    rows.iter().position(|row| row.is(key))
 }
 
 // The first row that the key fits, itself.
 pub fn find_row<K: Copy, T: Copy + Keyed<K>>(rows: &[T], key: K) -> Option<T>
     ensures { result ≡ first_of (T.Keyed.fits key) rows.now }
 {
-    match find_first(rows, key) {
-        Some(i) => Some(rows[i]),
-        None => None,
-    }
+    rows.iter().find(|row| row.is(key)).copied()
 }
 
 // Whether the key fits any row.
 pub fn any_fits<K: Copy, T: Keyed<K>>(rows: &[T], key: K) -> bool
     ensures { result ≡ has (T.Keyed.fits key) rows.now }
 {
-    find_first(rows, key).is_some()
+    rows.iter().any(|row| row.is(key))
 }
 
 // How many rows the key fits.
 pub fn count_fitting<K: Copy, T: Keyed<K>>(rows: &[T], key: K) -> usize
     ensures { result ≡ count_if (T.Keyed.fits key) rows.now }
 {
-    let mut count: usize = 0;
-    for row in rows {
-        if row.is(key) {
-            count += 1;
-        }
-    }
-    count
+    rows.iter().filter(|row| row.is(key)).count()
 }

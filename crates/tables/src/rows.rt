@@ -1,4 +1,5 @@
-ghost use Rattle.std.specs.Prelude.{◌≡◌, ◌<◌, [], ◌∷◌, ◌++◌, length, replicate, slice_set};
+ghost use Rattle.std.specs.Prelude.{◌≡◌, ◌<◌, ◌≤◌, List, [], ◌∷◌, ◌++◌, length, replicate, slice_set, ⊤};
+ghost use Rattle.std.specs.Iterator.{DrainsIf, IsFinite, Yields};
 ghost use Rattle.tables.specs.Listed.{full, listed, places};
 
 use super::Table;
@@ -15,12 +16,26 @@ impl<T: Copy, const N: usize> Table<T, N> {
         }
     }
 
+    // The items as they come, each a listed row; the blank row fills the other places.
+    // Callers are proved to have no more items than the table has places.
+    pub fn collect<I: Iterator<Item = T>>(items: I, blank: T) -> Table<T, N>
+        requires can { I.can_next items }
+        requires ends { IsFinite (I.remaining items) }
+        requires few { (xs : List T) (rest : I) → Yields I.next_gives items xs rest → length xs ≤ N }
+        ensures { (xs : List T) × DrainsIf I.next_gives ⊤ items xs × (listed result ≡ xs) }
+    {
+        let mut table = Table::new(blank);
+        for item in items {
+            table.push(item);
+        }
+        table
+    }
+
     // The listed rows.
     pub fn as_slice(&self) -> &[T]
         ensures { result.now ≡ listed self.now }
     {
-        let all = &self.rows[..];
-        &all[0..self.len]
+        &self.rows[..self.len]
     }
 
     // How many rows are listed.
@@ -60,8 +75,6 @@ impl<T: Copy, const N: usize> Table<T, N> {
         ensures blank { places self.new ≡ replicate N blank }
     {
         self.len = 0;
-        for place in self.rows.iter_mut() {
-            *place = blank;
-        }
+        *self = Table::new(blank);
     }
 }

@@ -45,8 +45,5 @@ pub fn total<T: Carries>(rows: &[T], whose: Whose) -> u64
     requires { sum (carried_by whose T.Owned.owned T.Carries.carried rows.now) < 2 ^ 64 }
     ensures { result ≡ sum (carried_by whose T.Owned.owned T.Carries.carried rows.now) }
 {
-    match total_within(rows, whose, u64::MAX) {
-        Some(total) => total,
-        None => unreachable(),
-    }
+    total_within(rows, whose, u64::MAX).unwrap()
 }

@@ -1,19 +1,12 @@
-use Rattle.std.proofs.Common.{◌≡◌, ◌-◌, get_or, sym, ap, ◌∙◌, arith}
-use Rattle.tables.proofs.Finding.{found, figure-found, figure-absent}
+use Rattle.std.proofs.Common.{rules, tests, ap, ◌∙◌}
+use Rattle.std.specs.Prelude.{option_map, unwrap_or}
+use Rattle.std.proofs.lemmas.Iterator.{YieldsList-from_slice, YieldsList-from_zip}
+use Rattle.std.proofs.lemmas.Iterator.Search.{find_from_yields_List}
+use Rattle.tables.proofs.Collecting.{figure_of-find}
 use Rattle.tables.proofs.figures.figure_of.Goals as goal
 
-pub offset_bounds-figures-i : goal.offset_bounds-figures-i
-offset_bounds-figures-i g c = omega (arith, (found (g.T.Keyed.fits c.args.key) c.args.rows.now c.in-Some.i (sym c.in-Some.ensures)).within)
-
-pub bounds-figures-i : goal.bounds-figures-i
-bounds-figures-i g c = omega (arith, (found (g.T.Keyed.fits c.args.key) c.args.rows.now c.in-Some.i (sym c.in-Some.ensures)).within, c.requires)
-
-pub returns-in-Some : goal.returns-in-Some
-returns-in-Some g c =
-    let xs = c.args.figures.now in
-    let k = c.in-Some.i in
-    let at : k - 0 ≡ k = omega arith in
-    sym (ap (λ m. get_or xs m 0) at) ∙ (figure-found 0 (g.T.Keyed.fits c.args.key) c.args.rows.now xs 0 k c.requires (sym c.in-Some.ensures)).1
-
-pub returns-in-None : goal.returns-in-None
-returns-in-None g c = sym (figure-absent 0 (g.T.Keyed.fits c.args.key) c.args.rows.now c.args.figures.now 0 (sym c.in-None.ensures))
+pub returns : goal.returns
+returns g c =
+    search (rules, tests)
+    ∙ ap (λ o. unwrap_or (option_map (λ p. p.1) o) 0) (find_from_yields_List (λ p. g.T.Keyed.fits c.args.key p.0) c.find.new.self _ c.find.result c.find.ensures.ran (YieldsList-from_zip (YieldsList-from_slice c.args.rows.now (cc)) (YieldsList-from_slice c.args.figures.now (cc))) (λ x b q k. search (rules, tests)))
+    ∙ figure_of-find 0 (g.T.Keyed.fits c.args.key) c.args.rows.now c.args.figures.now

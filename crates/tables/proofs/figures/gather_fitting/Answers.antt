@@ -1,42 +1,30 @@
-use Rattle.std.proofs.Common.{◌<◌, length, sym, ap, ◌∙◌, arith}
-use Rattle.std.proofs.lemmas.List.{length_push}
-use Rattle.tables.specs.Listed.{listed}
-use Rattle.tables.proofs.Finding.{count_on}
-use Rattle.tables.proofs.Gathering.{gathered_yes, gathered_no, gathered_all}
+use Rattle.std.proofs.Common.{rules, tests, ◌∙◌}
+use Rattle.std.proofs.iter.Serving.{serving}
+use Rattle.std.proofs.lemmas.Iterator.{YieldsList-from_slice, YieldsList-from_map, YieldsList-from_zip}
+use Rattle.std.proofs.lemmas.Iterator.Consumers.{YieldsList-from_filter, YieldsList-at}
+use Rattle.tables.proofs.Collecting.{collected, few_items, figures_if-filter, few_pairs}
 use Rattle.tables.proofs.figures.gather_fitting.Goals as goal
-use Rattle.tables.proofs.figures.gather_fitting.Goals.{then-is, else-is}
 
-pub push-requires : goal.push-requires
-push-requires g c =
-    let on = count_on (g.T.Keyed.fits c.args.key) c.args.rows.now c.loop-i.i c.index-rows-i.result c.is.result c.loop-i-test.true c.index-rows-i.is c.is.ensures in
-    let here = simp c.if-is.true at on in
-    omega (arith, here, c.loop-i.invariant.0, c.requires.few)
-
-pub loop-i-preserved : goal.loop-i-preserved
-loop-i-preserved g c =
-    let fits = g.T.Keyed.fits c.args.key in
-    let rows = c.args.rows.now in
-    let xs = c.args.figures.now in
-    let i = c.loop-i.i in
-    let x = c.index-rows-i.result in
-    let out = listed c.loop-i.gathered in
-    let on = count_on fits rows i x c.is.result c.loop-i-test.true c.index-rows-i.is c.is.ensures in
-    let room : i < length xs = omega (arith, c.requires.room, c.loop-i-test.true) in
-    elim c.if-is.branch [
-      | then-is w ↦
-          let here = simp w.if-is.true at on in
-          let pushed = ap listed w.gathered-is ∙ w.push.ensures in (
-            omega (arith, ap length pushed, length_push out w.from.result, here, c.loop-i.invariant.0),
-            gathered_yes fits rows xs i x c.loop-i-test.true room c.index-rows-i.is out _ _ c.loop-i.invariant.1 w.from.result (sym c.is.ensures ∙ w.if-is.true) w.from.ensures pushed,
-          )
-      | else-is w ↦
-          let here = simp w.if-is.false at on in
-          let same = ap listed w.gathered-is in (
-            omega (arith, ap length same, here, c.loop-i.invariant.0),
-            gathered_no fits rows xs i x c.loop-i-test.true room c.index-rows-i.is out _ _ c.loop-i.invariant.1 (sym c.is.ensures ∙ w.if-is.false) same,
-          )
-    ]
+pub collect-requires : goal.collect-requires
+collect-requires g c = (
+  search rules,
+  (
+    grind serving,
+    (
+      search rules,
+      few_items _
+          (YieldsList-from_map _ (λ p. p.1)
+          (YieldsList-at c.map.ensures.source (YieldsList-from_filter _ (λ p. g.T.Keyed.fits c.args.key p.0) (YieldsList-at c.filter.ensures.source (YieldsList-from_zip (YieldsList-from_slice c.args.rows.now (cc)) (YieldsList-from_slice c.args.figures.now (cc)))) c.filter.ensures.closure (λ x b q k. search (rules, tests))))
+          c.map.ensures.closure (λ x r q k. search (rules, tests)))
+          (few_pairs (g.T.Keyed.fits c.args.key) c.args.rows.now c.args.figures.now _ c.requires.few),
+    ),
+  ),
+)
 
 pub returns : goal.returns
 returns g c =
-    gathered_all (g.T.Keyed.fits c.args.key) c.args.rows.now c.args.figures.now c.loop-i.i (listed c.loop-i.gathered) _ c.loop-i-test.false c.loop-i.invariant.1
+    collected c.collect.ensures
+    (YieldsList-from_map _ (λ p. p.1)
+    (YieldsList-at c.map.ensures.source (YieldsList-from_filter _ (λ p. g.T.Keyed.fits c.args.key p.0) (YieldsList-at c.filter.ensures.source (YieldsList-from_zip (YieldsList-from_slice c.args.rows.now (cc)) (YieldsList-from_slice c.args.figures.now (cc)))) c.filter.ensures.closure (λ x b q k. search (rules, tests))))
+    c.map.ensures.closure (λ x r q k. search (rules, tests)))
+    ∙ figures_if-filter (g.T.Keyed.fits c.args.key) c.args.rows.now c.args.figures.now
