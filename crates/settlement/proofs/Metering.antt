@@ -15,7 +15,7 @@ use Rattle.settlement.specs.Demand.{kwh_read, meters_of, demand_by, multiplier_o
 
 -- what is read past the end of a list of places
 abbrev pub blank : Place
-blank = record { meter = 0; owner_kind = RetailContract; owner = 0 }
+blank = record { meter = 0; owner = record { kind = RetailContract; number = 0 } }
 
 module _ (read : ℕ → Option ℕ) where
   -- meters that all have a reading read what they read

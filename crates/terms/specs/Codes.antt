@@ -1,5 +1,5 @@
 -- The codes by which callers name the cases: one definition for each.
-use Rattle.std.specs.Prelude.{ℕ, cond, Some, None, Option, ◌==◌}
+use Rattle.std.specs.Prelude.{◌≡◌, ◌≢◌, ℕ, cond, Some, None, Option, Result, MatchResult, ◌==◌}
 use Rattle.terms.specs.declared.codes.Kind.{Kind}
 use Rattle.terms.specs.declared.codes.Kind.TheVariants.{Generation, Retail, Negawatt}
 use Rattle.terms.specs.declared.codes.Direction.{Direction}
@@ -8,6 +8,7 @@ use Rattle.terms.specs.declared.codes.OwnerKind.{OwnerKind}
 use Rattle.terms.specs.declared.codes.OwnerKind.TheVariants.{RetailContract, CurtailmentGroup}
 use Rattle.terms.specs.declared.codes.Method.{Method}
 use Rattle.terms.specs.declared.codes.Method.TheVariants.{One, Two}
+use Rattle.terms.specs.declared.codes.UnknownCode.{UnknownCode}
 
 abbrev pub kind_code : Kind → ℕ
 kind_code Generation = 1
@@ -42,3 +43,7 @@ method_of code = cond (code == method_code One) (Some One) (cond (code == method
 -- A method that is not stated, 0, counts as 1.
 abbrev pub stated : ℕ → ℕ
 stated code = cond (code == 0) 1 code
+
+-- What a conversion from a code gives: the case with the code; or an error with the code, where no case has it.
+abbrev pub Decodes : {C : Type 0} → (ℕ → Option C) → (C → ℕ) → ℕ → Result C UnknownCode → Type 0
+Decodes {C} decoded coded code r = MatchResult r (λ x. (decoded code ≡ Some x) × (coded x ≡ code)) (λ e. (decoded code ≡ None) × (e.code ≡ code) × ((x : C) → coded x ≢ code))

@@ -13,4 +13,4 @@ same_kind CurtailmentGroup CurtailmentGroup = true
 
 -- A place is the owner's if it names the owner's kind and number.
 abbrev pub is_of : Owner → Place → Bool
-is_of o p = same_kind o.kind p.owner_kind && p.owner == o.number
+is_of o p = same_kind o.kind p.owner.kind && p.owner.number == o.number

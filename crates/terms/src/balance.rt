@@ -2,7 +2,7 @@ ghost use Rattle.std.specs.Prelude.{◌≡◌, pos, ◌+ℤ◌, ◌-ℤ◌};
 
 // What a contract generates itself, buys and sells in the half hour, by its corrected trades.
 // Own generation and purchases together are always the sales, so own generation may be below zero.
-#[derive(Clone, Copy)]
+#[derive(Clone, Copy, PartialEq, Eq, Debug)]
 pub struct Balance {
     own: i64,
     bought: u32,

@@ -1,102 +1,109 @@
 // The cases of the trade that callers name by a code: kinds of contract, directions, kinds of owner, methods.
-ghost use Rattle.std.specs.Prelude.{◌≡◌, ℕ, Option as Maybe, MatchOption, ◌≢◌};
-ghost use Rattle.terms.specs.Codes.{kind_code, direction_code, owner_code, method_code, kind_of, direction_of, owner_kind_of, method_of, stated};
+ghost use Rattle.std.specs.Prelude.{◌≡◌, Some};
+ghost use Rattle.terms.specs.Codes.{kind_code, direction_code, owner_code, method_code, kind_of, direction_of, owner_kind_of, method_of, stated, Decodes};
+ghost use Rattle.terms.specs.Text.{unknown_code_text};
+
+use std::error::Error;
+use std::fmt;
 
 // What a contract is.
-#[derive(Clone, Copy)]
+#[derive(Clone, Copy, PartialEq, Eq, Debug)]
 pub enum Kind {
-    Generation,
-    Retail,
-    Negawatt,
+    Generation = 1,
+    Retail = 2,
+    Negawatt = 3,
 }
 
 // Which way a line trades.
-#[derive(Clone, Copy)]
+#[derive(Clone, Copy, PartialEq, Eq, Debug)]
 pub enum Direction {
-    Sale,
-    Purchase,
+    Sale = 1,
+    Purchase = 2,
 }
 
 // What owns a place.
-#[derive(Clone, Copy)]
+#[derive(Clone, Copy, PartialEq, Eq, Debug)]
 pub enum OwnerKind {
-    RetailContract,
-    CurtailmentGroup,
+    RetailContract = 1,
+    CurtailmentGroup = 2,
 }
 
 // How a difference between curtailment plan and metered demand is settled: shared with the retailer, or all the aggregator's.
-#[derive(Clone, Copy)]
+#[derive(Clone, Copy, PartialEq, Eq, Debug)]
 pub enum Method {
-    One,
-    Two,
+    One = 1,
+    Two = 2,
 }
 
-// Cases that have codes.
-pub trait Coded: Sized {
-    ghost coded: { Self → ℕ };
-
-    // the case with a code, if any has it
-    ghost decoded: { ℕ → Maybe Self };
-
-    // The case with this code, or none where no case has it.
-    fn from_code(code: u32) -> Option<Self>
-        ensures exact { result ≡ decoded code }
-        ensures case { MatchOption result ((x : Self) → coded x ≢ code) (λ x. coded x ≡ code) };
+// A code that no case has.
+#[derive(Clone, Copy, PartialEq, Eq, Debug)]
+pub struct UnknownCode {
+    pub code: u32,
 }
 
-impl Coded for Kind {
-    ghost coded = { kind_code };
+impl fmt::Display for UnknownCode {
+    ghost output = { λ e. Some (unknown_code_text e) };
 
-    ghost decoded = { kind_of };
+    fn fmt<W: fmt::Write>(&self, f: &mut fmt::Formatter<W>) -> fmt::Result {
+        write!(f, "no case has the code {}", self.code)
+    }
+}
 
-    fn from_code(code: u32) -> Option<Kind> {
+impl Error for UnknownCode {}
+
+impl TryFrom<u32> for Kind {
+    type Error = UnknownCode;
+
+    ghost try_from_gives = { Decodes kind_of kind_code };
+
+    fn try_from(code: u32) -> Result<Kind, UnknownCode> {
         match code {
-            1 => Some(Kind::Generation),
-            2 => Some(Kind::Retail),
-            3 => Some(Kind::Negawatt),
-            _ => None,
+            1 => Ok(Kind::Generation),
+            2 => Ok(Kind::Retail),
+            3 => Ok(Kind::Negawatt),
+            _ => Err(UnknownCode { code }),
         }
     }
 }
 
-impl Coded for Direction {
-    ghost coded = { direction_code };
+impl TryFrom<u32> for Direction {
+    type Error = UnknownCode;
 
-    ghost decoded = { direction_of };
+    ghost try_from_gives = { Decodes direction_of direction_code };
 
-    fn from_code(code: u32) -> Option<Direction> {
+    fn try_from(code: u32) -> Result<Direction, UnknownCode> {
         match code {
-            1 => Some(Direction::Sale),
-            2 => Some(Direction::Purchase),
-            _ => None,
+            1 => Ok(Direction::Sale),
+            2 => Ok(Direction::Purchase),
+            _ => Err(UnknownCode { code }),
         }
     }
 }
 
-impl Coded for OwnerKind {
-    ghost coded = { owner_code };
+impl TryFrom<u32> for OwnerKind {
+    type Error = UnknownCode;
 
-    ghost decoded = { owner_kind_of };
+    ghost try_from_gives = { Decodes owner_kind_of owner_code };
 
-    fn from_code(code: u32) -> Option<OwnerKind> {
+    fn try_from(code: u32) -> Result<OwnerKind, UnknownCode> {
         match code {
-            1 => Some(OwnerKind::RetailContract),
-            2 => Some(OwnerKind::CurtailmentGroup),
-            _ => None,
+            1 => Ok(OwnerKind::RetailContract),
+            2 => Ok(OwnerKind::CurtailmentGroup),
+            _ => Err(UnknownCode { code }),
         }
     }
 }
 
-impl Coded for Method {
-    ghost coded = { method_code };
+impl TryFrom<u32> for Method {
+    type Error = UnknownCode;
 
-    ghost decoded = { method_of };
+    ghost try_from_gives = { Decodes method_of method_code };
 
-    fn from_code(code: u32) -> Option<Method> {
+    fn try_from(code: u32) -> Result<Method, UnknownCode> {
         match code {
-            1 => Some(Method::One),
-            2 => Some(Method::Two),
-            _ => None,
+            1 => Ok(Method::One),
+            2 => Ok(Method::Two),
+            _ => Err(UnknownCode { code }),
         }
     }
 }
@@ -106,24 +113,19 @@ impl Kind {
     pub fn code(self) -> u32
         ensures { result ≡ kind_code self }
     {
-        match self {
-            Kind::Generation => 1,
-            Kind::Retail => 2,
-            Kind::Negawatt => 3,
-        }
+        self as u32
     }
 }
 
 impl Method {
     // The method that is filed by this code; 0, unstated, counts as 1.
-    pub fn filed(code: u32) -> Option<Method>
-        ensures exact { result ≡ method_of (stated code) }
-        ensures case { MatchOption result ((m : Method) → method_code m ≢ stated code) (λ m. method_code m ≡ stated code) }
+    pub fn filed(code: u32) -> Result<Method, UnknownCode>
+        ensures { Decodes method_of method_code (stated code) result }
     {
         if code == 0 {
-            Some(Method::One)
+            Ok(Method::One)
         } else {
-            Method::from_code(code)
+            Method::try_from(code)
         }
     }
 }

@@ -1,9 +1,10 @@
 // With whom a line trades.
-ghost use Rattle.std.specs.Prelude.{◌≡◌, if◌then◌else◌, MatchOption, ◌≢◌, nat_eq};
-ghost use Rattle.terms.specs.Partners.{partner_code, partner_number, partner_of};
+ghost use Rattle.terms.specs.Partners.{DecodesPartner};
+
+use crate::codes::UnknownCode;
 
 // The power exchange, a party outside the area by its number, or a contract by its number.
-#[derive(Clone, Copy)]
+#[derive(Clone, Copy, PartialEq, Eq, Debug)]
 pub enum Partner {
     Exchange,
     Outside(u32),
@@ -11,16 +12,15 @@ pub enum Partner {
 }
 
 impl Partner {
-    // The partner of this kind and number, or none where no partner has the kind. The exchange is always numbered 0.
-    pub fn from_codes(kind: u32, number: u32) -> Option<Partner>
-        ensures exact { result ≡ partner_of kind number }
-        ensures case { MatchOption result ((p : Partner) → partner_code p ≢ kind) (λ p. (partner_code p ≡ kind) × (partner_number p ≡ (if nat_eq kind 1 then 0 else number))) }
+    // The partner of this kind and number, or an error where no partner has the kind. The exchange is always numbered 0.
+    pub fn from_codes(kind: u32, number: u32) -> Result<Partner, UnknownCode>
+        ensures { DecodesPartner kind number result }
     {
         match kind {
-            1 => Some(Partner::Exchange),
-            2 => Some(Partner::Outside(number)),
-            3 => Some(Partner::Contract(number)),
-            _ => None,
+            1 => Ok(Partner::Exchange),
+            2 => Ok(Partner::Outside(number)),
+            3 => Ok(Partner::Contract(number)),
+            _ => Err(UnknownCode { code: kind }),
         }
     }
 }

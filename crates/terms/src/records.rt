@@ -1,6 +1,6 @@
 // Records of a book, as they are filed, and what they are to totals and divisions.
 ghost use Rattle.std.specs.Prelude.{◌≡◌};
-ghost use Rattle.terms.specs.Owners.{same_kind, is_of};
+ghost use Rattle.terms.specs.Owners.{is_of};
 ghost use Rattle.terms.specs.Plans.{claim_in};
 
 use crate::codes::{Direction, Kind, Method, OwnerKind};
@@ -9,7 +9,7 @@ use tables::bounds::{Carries, Head, Owned};
 use tables::keys::Keyed;
 
 // A contract: a party's standing in the area. Only a retail contract's loss multiplier, in ten-thousandths, is used.
-#[derive(Clone, Copy)]
+#[derive(Clone, Copy, PartialEq, Eq, Debug)]
 pub struct Contract {
     pub number: u32,
     pub kind: Kind,
@@ -17,7 +17,7 @@ pub struct Contract {
 }
 
 // A balancing group: the unit of a contract for which an imbalance is computed.
-#[derive(Clone, Copy)]
+#[derive(Clone, Copy, PartialEq, Eq, Debug)]
 pub struct Group {
     pub number: u32,
     pub contract: u32,
@@ -25,14 +25,15 @@ pub struct Group {
 }
 
 // A generation group holds shares in plants; a curtailment group calls customers to use less.
-#[derive(Clone, Copy)]
+// Not an Option, whose None would not say that the group generates: these are the two sorts of the trade.
+#[derive(Clone, Copy, PartialEq, Eq, Debug)]
 pub enum GroupSort {
     Generation,
     Curtailment(Curtailment),
 }
 
 // What a curtailment group files: whose customers it calls, what they would use, how much of it they are to save, and how a difference is settled.
-#[derive(Clone, Copy)]
+#[derive(Clone, Copy, PartialEq, Eq, Debug)]
 pub struct Curtailment {
     pub retailer: u32,
     pub baseline: u32,
@@ -41,14 +42,14 @@ pub struct Curtailment {
 }
 
 // A plant: a metered power station.
-#[derive(Clone, Copy)]
+#[derive(Clone, Copy, PartialEq, Eq, Debug)]
 pub struct Plant {
     pub meter: u32,
 }
 
 // A share: what one generation group takes of one plant.
 // The rank says in which turn the share is served when the plant's output is allotted.
-#[derive(Clone, Copy)]
+#[derive(Clone, Copy, PartialEq, Eq, Debug)]
 pub struct Share {
     pub group: u32,
     pub plant: u32,
@@ -57,7 +58,7 @@ pub struct Share {
 }
 
 // A line: one trade of one contract, with the kWh planned and the kWh agreed.
-#[derive(Clone, Copy)]
+#[derive(Clone, Copy, PartialEq, Eq, Debug)]
 pub struct Line {
     pub contract: u32,
     pub direction: Direction,
@@ -67,18 +68,17 @@ pub struct Line {
 }
 
 // What a place belongs to: a retail contract or a curtailment group, by its number.
-#[derive(Clone, Copy)]
+#[derive(Clone, Copy, PartialEq, Eq, Debug)]
 pub struct Owner {
     pub kind: OwnerKind,
     pub number: u32,
 }
 
 // A place: a metered customer site of a retail contract or a curtailment group.
-#[derive(Clone, Copy)]
+#[derive(Clone, Copy, PartialEq, Eq, Debug)]
 pub struct Place {
     pub meter: u32,
-    pub owner_kind: OwnerKind,
-    pub owner: u32,
+    pub owner: Owner,
 }
 
 // A share belongs to its group and carries what it planned.
@@ -125,22 +125,11 @@ impl Head for Group {
     }
 }
 
-// Whether two owners are of one kind.
-fn is_same_kind(one: OwnerKind, other: OwnerKind) -> bool
-    ensures { result ≡ same_kind one other }
-{
-    match (one, other) {
-        (OwnerKind::RetailContract, OwnerKind::RetailContract) => true,
-        (OwnerKind::CurtailmentGroup, OwnerKind::CurtailmentGroup) => true,
-        _ => false,
-    }
-}
-
 // A place is found by its owner.
 impl Keyed<Owner> for Place {
     ghost fits = { is_of };
 
     fn is(&self, key: Owner) -> bool {
-        is_same_kind(key.kind, self.owner_kind) & (self.owner == key.number)
+        self.owner == key
     }
 }

@@ -1,6 +1,8 @@
 ghost use Rattle.std.specs.Prelude.{◌≡◌};
 ghost use Rattle.terms.specs.Numbers.{numbered};
 
+use crate::codes::UnknownCode;
+
 // The sorts of record that a refusal can be about.
 #[derive(Clone, Copy, PartialEq, Eq, Debug)]
 pub enum Sort {
@@ -53,7 +55,7 @@ pub enum Refusal {
 }
 
 impl Refusal {
-    // The number by which a caller knows the refusal.
+    // The number by which a caller knows the refusal. A match, since two cases name a record: only an enum whose cases hold nothing has numbers of its own.
     pub fn number(&self) -> u32
         ensures { result ≡ numbered self.now }
     {
@@ -74,5 +76,15 @@ impl Refusal {
             Refusal::ShortBuffer => 14,
             Refusal::NotDivisible => 15,
         }
+    }
+}
+
+impl From<UnknownCode> for Refusal {
+    ghost use Rattle.terms.specs.declared.refusal.Refusal.{Refusal};
+
+    ghost from_gives = { λ _ r. r ≡ Refusal.UnknownCode };
+
+    fn from(_code: UnknownCode) -> Self {
+        Self::UnknownCode
     }
 }

@@ -10,9 +10,12 @@ impl fmt::Display for Balance {
     ghost output = { λ b. Some (balance_text b) };
 
     fn fmt<W: fmt::Write>(&self, f: &mut fmt::Formatter<W>) -> fmt::Result {
-        let sold = self.sold();
-        let bought = self.bought();
-        let own = self.own();
-        write!(f, "sold {sold}, bought {bought}: deemed plan {own}")
+        write!(
+            f,
+            "sold {}, bought {}: deemed plan {}",
+            self.sold(),
+            self.bought(),
+            self.own()
+        )
     }
 }
