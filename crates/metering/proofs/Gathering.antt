@@ -5,17 +5,19 @@ use Rattle.tables.specs.Carried.{carried_if}
 use Rattle.tables.proofs.Carrying.{sum-cons, carried_all}
 use Rattle.metering.specs.Demand.{before, readings, multiplied, demand_from, demand_of}
 use Rattle.metering.specs.Bounds.{AtMost}
+use Rattle.metering.specs.declared.demand.Unread.{Unread}
+use Rattle.std.specs.Prelude.{ok_or}
 
 -- the readings gathered so far, before those of the meters still to come
-abbrev pub behind : List ℕ → Result (List ℕ) ℕ → Result (List ℕ) ℕ
+abbrev pub behind : List ℕ → Result (List ℕ) Unread → Result (List ℕ) Unread
 behind kwhs (Ok more) = Ok (kwhs ++ more)
 behind kwhs (Err without) = Err without
 
-pub behind_nothing : (rest : Result (List ℕ) ℕ) → behind [] rest ≡ rest
+pub behind_nothing : (rest : Result (List ℕ) Unread) → behind [] rest ≡ rest
 behind_nothing (Ok more) = refl
 behind_nothing (Err without) = refl
 
-one_more : (kwhs : List ℕ) (meter kwh : ℕ) (rest : Result (List ℕ) ℕ) → behind kwhs (before meter (Some kwh) rest) ≡ behind (kwhs ++ kwh ∷ []) rest
+one_more : (kwhs : List ℕ) (meter kwh : ℕ) (rest : Result (List ℕ) Unread) → behind kwhs (before meter (Some kwh) rest) ≡ behind (kwhs ++ kwh ∷ []) rest
 one_more kwhs meter kwh (Ok more) = ap Ok (sym (append_assoc kwhs (kwh ∷ []) more))
 one_more kwhs meter kwh (Err without) = refl
 
@@ -33,7 +35,7 @@ module _ (read : ℕ → Option ℕ) (meters : List ℕ) (i : ℕ) (kwhs : List 
         ∙ sym (ap (behind kwhs) (readings-at (Some kwh) e) ∙ one_more kwhs (get_or meters i 0) kwh (readings read (drop (i + 1) meters)))
         ∙ inv
 
-    pub gather_none : None ≡ read (get_or meters i 0) → behind kwhs (readings read (drop i meters)) ≡ readings read meters → readings read meters ≡ Err (get_or meters i 0)
+    pub gather_none : None ≡ read (get_or meters i 0) → behind kwhs (readings read (drop i meters)) ≡ readings read meters → readings read meters ≡ Err (record { meter = get_or meters i 0 })
     gather_none e inv = sym inv ∙ ap (behind kwhs) (readings-at None e)
 
   pub gather_all : length meters ≤ i → behind kwhs (readings read (drop i meters)) ≡ readings read meters → readings read meters ≡ Ok kwhs
@@ -45,7 +47,7 @@ module _ (read : ℕ → Option ℕ) (largest : ℕ) (bounded : (meter : ℕ) �
   sum-at_most [] kwhs e = let q : [] ≡ kwhs = cc in omega (arith, ap sum q)
   sum-at_most (meter ∷ meters) kwhs e = go (read meter) (readings read meters) (bounded meter) (sum-at_most meters) e
     where
-      go : (o : Option ℕ) (rest : Result (List ℕ) ℕ) → AtMost largest o → ((ks : List ℕ) → rest ≡ Ok ks → sum ks ≤ 2000000 * length meters) →
+      go : (o : Option ℕ) (rest : Result (List ℕ) Unread) → AtMost largest o → ((ks : List ℕ) → rest ≡ Ok ks → sum ks ≤ 2000000 * length meters) →
           before meter o rest ≡ Ok kwhs → sum kwhs ≤ 2000000 * length (meter ∷ meters)
       go None rest b f e = let z : ◌≡◌ {A = ℕ} 0 1 = cc in absurd (omega arith)
       go (Some kwh) (Err without) b f e = let z : ◌≡◌ {A = ℕ} 0 1 = cc in absurd (omega arith)
@@ -64,3 +66,12 @@ pub demand-made : (read : ℕ → Option ℕ) (meters lent kwhs : List ℕ) (mul
     total ≡ sum (carried_if (λ x. true) (λ x. x) lent) → demand ≡ multiplied total multiplier → Ok demand ≡ demand_of read meters multiplier
 demand-made read meters lent kwhs multiplier total demand r e t d =
     ap Ok (d ∙ ap (λ kwh. multiplied kwh multiplier) (t ∙ total_readings lent kwhs e)) ∙ sym (ap (demand_from multiplier) r)
+
+-- what a reading tells that was asked for with a refusal at hand
+pub reading-told : (o : Option ℕ) (e : Unread) (kwh : ℕ) → ok_or o e ≡ Ok kwh → Some kwh ≡ o
+reading-told None e kwh h = absurd (let z : ◌≡◌ {A = ℕ} 0 1 = cc in omega arith)
+reading-told (Some n) e kwh h = let q : n ≡ kwh = cc in ap Some (sym q)
+
+pub unread_told : (o : Option ℕ) (e x : Unread) → ok_or o e ≡ Err x → (None ≡ o) × (e ≡ x)
+unread_told None e x h = (refl, cc)
+unread_told (Some n) e x h = absurd (let z : ◌≡◌ {A = ℕ} 0 1 = cc in omega arith)

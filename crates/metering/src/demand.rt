@@ -13,24 +13,28 @@ pub const MOST_METERS: usize = 64;
 // A loss multiplier counts in ten-thousandths: this one leaves the sum as it is.
 const EVEN: u64 = 10_000;
 
+// A meter that has no reading.
+#[derive(Clone, Copy, PartialEq, Eq, Debug)]
+pub struct Unread {
+    pub meter: u32,
+}
+
 // The readings of the meters in listed order, or the first meter that has none.
 fn gather_readings<S: MeterSource>(
     source: &S,
     meters: &[u32],
-) -> Result<Table<u64, MOST_METERS>, u32>
+) -> Result<Table<u64, MOST_METERS>, Unread>
     requires { length meters.now ≤ 64 }
     ensures exact { elim result [
       | Ok gathered ↦ readings (S.MeterSource.read source.now) meters.now ≡ Ok (listed gathered)
-      | Err meter ↦ readings (S.MeterSource.read source.now) meters.now ≡ Err meter
+      | Err unread ↦ readings (S.MeterSource.read source.now) meters.now ≡ Err unread
     ] }
     ensures light { IfOk result (λ gathered. sum (listed gathered) ≤ 128000000) }
 {
     let mut gathered: Table<u64, MOST_METERS> = Table::new(0);
     for meter in meters {
-        match source.reading(*meter) {
-            Some(kwh) => gathered.push(u64::from(kwh)),
-            None => return Err(*meter),
-        }
+        let kwh = source.reading(*meter).ok_or(Unread { meter: *meter })?;
+        gathered.push(u64::from(kwh));
     }
     Ok(gathered)
 }
@@ -51,13 +55,12 @@ pub fn metered_demand<S: MeterSource>(
     source: &S,
     meters: &[u32],
     multiplier: u32,
-) -> Result<u64, u32>
+) -> Result<u64, Unread>
     requires few { length meters.now ≤ 64 }
     requires small { multiplier ≤ 12000 }
     ensures { result ≡ demand_of (S.MeterSource.read source.now) meters.now multiplier }
 {
-    match gather_readings(source, meters) {
-        Ok(gathered) => Ok(multiply(total(gathered.as_slice(), Whose::Everyone), multiplier)),
-        Err(meter) => Err(meter),
-    }
+    let gathered = gather_readings(source, meters)?;
+    let read = total(gathered.as_slice(), Whose::Everyone);
+    Ok(multiply(read, multiplier))
 }

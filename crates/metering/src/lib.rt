@@ -6,10 +6,11 @@ pub mod half_hour;
 pub mod lookup;
 pub mod register;
 pub mod source;
+pub mod table;
 
 #[cfg(test)]
 mod tests {
-    use crate::demand::metered_demand;
+    use crate::demand::{Unread, metered_demand};
     use crate::half_hour::{HalfHourRow, HalfHourTable};
     use crate::register::{RegisterRow, RegisterTable};
     use crate::source::MeterSource;
@@ -52,7 +53,10 @@ mod tests {
         ];
         let table = HalfHourTable::new(rows.to_vec(rt.alloc())?);
         assert_eq!(rt; metered_demand(&table, &[1, 2, 3], 10_450), Ok(105));
-        assert_eq!(rt; metered_demand(&table, &[1, 9, 8], 10_450), Err(9));
+        assert_eq!(rt;
+            metered_demand(&table, &[1, 9, 8], 10_450),
+            Err(Unread { meter: 9 })
+        );
         Ok(())
     }
 }

@@ -1,11 +1,11 @@
 // Meters with a register that only counts up, and starts again at 0 after 99,999.
 ghost use Rattle.std.specs.Prelude.{◌≡◌, ◌*◌, ◌≤◌};
-ghost use Rattle.metering.specs.Readings.{advance, register_fits, register_reading, register_read};
-ghost use Rattle.metering.specs.Bounds.{first-at_most, register_at_most};
+ghost use Rattle.metering.specs.Readings.{advance, register_fits, register_reading};
+ghost use Rattle.metering.specs.Bounds.{register_at_most};
 ghost use Rattle.std.proofs.Common.{rules};
 
-use crate::lookup::{MeterRow, first_reading, is_number};
-use crate::source::MeterSource;
+use crate::lookup::{MeterRow, is_number};
+use crate::table::MeterTable;
 
 // A register shows 0 to 99,999: so many values before it starts again.
 const ROUND: u32 = 100_000;
@@ -44,56 +44,31 @@ fn used(start: u32, end: u32, factor: u32) -> u32
 
 // Its reading is how far the register went on, times the factor; a row with anything outside its range gives none.
 impl MeterRow for RegisterRow {
+    // the most steps at the most kWh to a step: 1,999,980
+    const LARGEST: u32 = (ROUND - 1) * MOST_FACTOR;
+
     ghost numbered = { λ row. row.number };
 
     ghost gives = { register_reading };
+
+    ghost largest = { 1999980 };
+
+    ghost bounded = { register_at_most };
+
+    ghost small = { Prim.search rules };
+
+    fn largest_reading() -> u32 {
+        Self::LARGEST
+    }
 
     fn number(&self) -> u32 {
         self.number
     }
 
     fn reading(&self) -> Option<u32> {
-        if fits(self) {
-            Some(used(self.start, self.end, self.factor))
-        } else {
-            None
-        }
+        fits(self).then(|| used(self.start, self.end, self.factor))
     }
 }
 
-// A table of such meters, as it was delivered: nothing in it is checked beforehand.
-#[derive(Drop)]
-pub struct RegisterTable {
-    rows: Vec<RegisterRow>,
-}
-
-impl RegisterTable {
-    // The table of these rows, kept as they are.
-    pub fn new(rows: Vec<RegisterRow>) -> RegisterTable
-        ensures { result.rows ≡ rows }
-    {
-        RegisterTable { rows }
-    }
-}
-
-// It reads each meter by the first row with the meter's number.
-impl MeterSource for RegisterTable {
-    // the most steps at the most kWh to a step: 1,999,980
-    const LARGEST: u32 = (ROUND - 1) * MOST_FACTOR;
-
-    ghost read = { λ table meter. register_read table.rows.items meter };
-
-    ghost largest = { 1999980 };
-
-    ghost bounded = { λ table meter kwh e. first-at_most (λ row. row.number) register_reading 1999980 register_at_most meter table.rows.items kwh e };
-
-    ghost small = { Prim.search rules };
-
-    fn largest_reading(&self) -> u32 {
-        Self::LARGEST
-    }
-
-    fn reading(&self, meter: u32) -> Option<u32> {
-        first_reading(self.rows.as_slice(), meter)
-    }
-}
+// A table of such meters.
+pub type RegisterTable = MeterTable<RegisterRow>;
