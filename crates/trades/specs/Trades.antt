@@ -1,5 +1,6 @@
 -- Corrected trades: the figure of each line, and what a contract sold and bought.
-use Rattle.std.specs.Prelude.{ℕ, min, Bool, true, false, not, ◌&&◌, List, ℤ, pos, ◌-ℤ◌, Some, None, sum, Option, ◌==◌, nat_eq}
+use Rattle.std.specs.List.{AllByRecursion}
+use Rattle.std.specs.Prelude.{◌≡◌, ◌≤◌, length, ℕ, min, Bool, true, false, not, ◌&&◌, List, ℤ, pos, ◌-ℤ◌, Some, None, sum, Option, ◌==◌, nat_eq}
 use Rattle.tables.specs.Keys.{first_of, count_if}
 use Rattle.tables.specs.Figures.{figures_if}
 use Rattle.terms.specs.declared.codes.Direction.{Direction}
@@ -54,3 +55,9 @@ net_of contract lines figures = pos (traded Sale contract lines figures) -ℤ po
 -- How many lines the contract has.
 abbrev pub lines_of : ℕ → List Line → ℕ
 lines_of contract lines = count_if (λ l. nat_eq l.contract contract) lines
+
+-- The limits that the lines of a book keep: a figure of at most 2,000,000 kWh for each line, and at most 64 lines a contract.
+pub record Trading (lines : List Line) (figures : List ℕ) : Type 0 where
+  pub room : length figures ≡ length lines
+  pub small : AllByRecursion (λ f. f ≤ 2000000) figures
+  pub allowed : (contract : ℕ) → lines_of contract lines ≤ 64

@@ -4,7 +4,6 @@ ghost use Rattle.std.specs.List.{AllByRecursion};
 ghost use Rattle.terms.specs.declared.codes.Direction.TheVariants.{Sale, Purchase};
 ghost use Rattle.trades.specs.Trades.{trades_of, traded, lines_of};
 
-use crate::lines::are_turned;
 use tables::Table;
 use tables::figures::gather_fitting;
 use tables::keys::Keyed;
@@ -27,7 +26,7 @@ impl Keyed<TradesOf> for Line {
     ghost fits = { λ key l. trades_of key.direction key.contract l };
 
     fn is(&self, key: TradesOf) -> bool {
-        (self.contract == key.contract) & !are_turned(key.direction, self.direction)
+        (self.contract == key.contract) & (self.direction == key.direction)
     }
 }
 
@@ -39,14 +38,11 @@ fn total_traded(lines: &[Line], figures: &[u32], direction: Direction, contract:
     ensures value { result ≡ traded direction contract lines.now figures.now }
     ensures within { result ≤ 128000000 }
 {
-    let gathered: Table<u64, MOST_LINES> = gather_fitting(
-        lines,
-        TradesOf {
-            direction,
-            contract,
-        },
-        figures,
-    );
+    let key = TradesOf {
+        direction,
+        contract,
+    };
+    let gathered: Table<u32, MOST_LINES> = gather_fitting(lines, key, figures, 0);
     total(gathered.as_slice(), Whose::Everyone) as u32
 }
 

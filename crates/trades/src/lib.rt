@@ -2,5 +2,6 @@
 #![tactic(auto)]
 
 pub mod balances;
+pub mod corrected;
 mod laws;
 pub mod lines;
