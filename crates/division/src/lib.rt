@@ -35,22 +35,41 @@ pub trait DivisionRule {
     ghost all: { (s : Self) (whole : ℕ) (claims : List ℕ) → 1 ≤ length claims → sum (parts s whole claims) ≡ whole };
 }
 
-// The claims' total, where the division is inside the limits.
-fn admitted(whole: u64, claims: &[u64], room: usize) -> Result<u64, Refusal>
-    ensures { elim result [
-      | Ok total ↦ (divisible whole claims.now room ≡ true) × (total ≡ sum claims.now)
-      | Err e ↦ (divisible whole claims.now room ≡ false) × (e ≡ NotDivisible)
-    ] }
-{
-    if claims.len() < 1
-        || claims.len() > MOST_CLAIMS
-        || whole > MOST_WHOLE
-        || room != claims.len()
+// A whole, the claims among which it is divided, and what they come to: a division inside the limits.
+#[derive(Clone, Copy)]
+struct Admitted<'a> {
+    whole: u64,
+    claims: &'a [u64],
+    total: u64,
+    ghost some: { 1 ≤ length claims.now },
+    ghost few: { length claims.now ≤ 256 },
+    ghost small: { whole ≤ 128000000 },
+    ghost light: { sum claims.now ≤ 6144000000 },
+    ghost added: { total ≡ sum claims.now },
+}
+
+impl<'a> Admitted<'a> {
+    // Judges a division that has room for so many parts.
+    fn judge(whole: u64, claims: &'a [u64], room: usize) -> Result<Admitted<'a>, Refusal>
+        ensures { elim result [
+          | Ok admitted ↦ (divisible whole claims.now room ≡ true) × (admitted.whole ≡ whole) × (admitted.claims.now ≡ claims.now)
+          | Err e ↦ (divisible whole claims.now room ≡ false) × (e ≡ NotDivisible)
+        ] }
     {
-        return Err(Refusal::NotDivisible);
-    }
-    match total_within(claims, Whose::Everyone, MOST_CLAIMED) {
-        Some(total) => Ok(total),
-        None => Err(Refusal::NotDivisible),
+        if claims.is_empty()
+            || claims.len() > MOST_CLAIMS
+            || whole > MOST_WHOLE
+            || room != claims.len()
+        {
+            return Err(Refusal::NotDivisible);
+        }
+        let total = total_within(claims, Whose::Everyone, MOST_CLAIMED).ok_or(
+            Refusal::NotDivisible,
+        )?;
+        Ok(Admitted {
+            whole,
+            claims,
+            total,
+        })
     }
 }

@@ -1,11 +1,11 @@
 // The pro rata rule: each part is in proportion to its claim.
-ghost use Rattle.std.specs.Prelude.{◌≡◌, ◌+◌, ◌^◌, ◌<◌, ◌≤◌, true, length, sum};
-ghost use Rattle.division.specs.Limits.{divisible, Divided};
+ghost use Rattle.std.specs.Prelude.{◌≡◌, ◌+◌, ◌^◌, ◌<◌, ◌≤◌, length, sum};
+ghost use Rattle.division.specs.Limits.{Divided};
 ghost use Rattle.division.specs.Rules.{rounded_down, floors, topped, pro_rata};
 ghost use Rattle.division.specs.Nearness.{Near, EachWithinOne};
 ghost use Rattle.division.specs.Proportions.{length_pro_rata, sum_pro_rata};
 
-use crate::{DivisionRule, admitted};
+use crate::{Admitted, DivisionRule};
 use tables::totals::{Whose, total};
 use terms::refusal::Refusal;
 
@@ -24,38 +24,38 @@ pub fn rounded_down(whole: u64, total: u64, count: usize, claim: u64) -> u64
     }
 }
 
-// Writes each part rounded down.
-fn round_down(whole: u64, total: u64, claims: &[u64], into: &mut [u64])
-    requires admitted { divisible whole claims.now (length into.old) ≡ true }
-    requires total { total ≡ sum claims.now }
-    ensures { into.new ≡ floors whole claims.now }
-{
-    for i in 0..claims.len() {
-        into[i] = rounded_down(whole, total, claims.len(), claims[i]);
-    }
-}
-
 // One kWh more for each of the first `left`.
 fn top_up(into: &mut [u64], left: usize)
     requires few { left ≤ length into.old }
     requires small { sum into.old + left < 2 ^ 64 }
     ensures { into.new ≡ topped left into.old }
 {
-    for k in 0..left {
-        into[k] += 1;
+    for part in into[..left].iter_mut() {
+        *part += 1;
     }
 }
 
-// Writes the parts: rounded down, and then what is left over, one kWh each to the first claimants.
-fn write_in_proportion(whole: u64, all: u64, claims: &[u64], into: &mut [u64])
-    requires admitted { divisible whole claims.now (length into.old) ≡ true }
-    requires all { all ≡ sum claims.now }
-    ensures parts { into.new ≡ pro_rata whole claims.now }
-    ensures near { EachWithinOne whole claims.now into.new }
-{
-    round_down(whole, all, claims, into);
-    let given = total(into, Whose::Everyone);
-    top_up(into, (whole - given) as usize);
+impl<'a> Admitted<'a> {
+    // Writes each part rounded down.
+    fn round_down(&self, into: &mut [u64])
+        requires { length into.old ≡ length self.now.claims.now }
+        ensures { into.new ≡ floors self.now.whole self.now.claims.now }
+    {
+        for (i, claim) in self.claims.iter().enumerate() {
+            into[i] = rounded_down(self.whole, self.total, self.claims.len(), *claim);
+        }
+    }
+
+    // Writes the parts: rounded down, and then what is left over, one kWh each to the first claimants.
+    fn write_in_proportion(&self, into: &mut [u64])
+        requires { length into.old ≡ length self.now.claims.now }
+        ensures parts { into.new ≡ pro_rata self.now.whole self.now.claims.now }
+        ensures near { EachWithinOne self.now.whole self.now.claims.now into.new }
+    {
+        self.round_down(into);
+        let given = total(into, Whose::Everyone);
+        top_up(into, (self.whole - given) as usize);
+    }
 }
 
 // Whole times claim over total, rounded down; what is left over goes one kWh each to the first claimants in listed order.
@@ -73,8 +73,7 @@ impl DivisionRule for ProRata {
         ensures exact { Divided pro_rata whole claims.now into.old into.new result }
         ensures near { Near whole claims.now into.new result }
     {
-        let all = admitted(whole, claims, into.len())?;
-        write_in_proportion(whole, all, claims, into);
+        Admitted::judge(whole, claims, into.len())?.write_in_proportion(into);
         Ok(())
     }
 }

@@ -1,25 +1,26 @@
 // The ranked rule: the claims are met in the order given.
-ghost use Rattle.std.specs.Prelude.{◌≡◌, true, length};
-ghost use Rattle.division.specs.Limits.{divisible};
+ghost use Rattle.std.specs.Prelude.{◌≡◌, length};
 ghost use Rattle.division.specs.Rules.{ranked};
 ghost use Rattle.division.specs.Turns.{length-ranked, sum-ranked};
 
-use crate::{DivisionRule, admitted};
+use crate::{Admitted, DivisionRule};
 use terms::refusal::Refusal;
 
-// Writes the parts: each the smaller of the claim and what remains, the last all that remains.
-fn write_in_turn(whole: u64, claims: &[u64], into: &mut [u64])
-    requires { divisible whole claims.now (length into.old) ≡ true }
-    ensures { into.new ≡ ranked whole claims.now }
-{
-    let last = claims.len() - 1;
-    let mut remaining = whole;
-    for i in 0..last {
-        let part = claims[i].min(remaining);
-        into[i] = part;
-        remaining -= part;
+impl<'a> Admitted<'a> {
+    // Writes the parts: each the smaller of the claim and what remains, the last all that remains.
+    fn write_in_turn(&self, into: &mut [u64])
+        requires { length into.old ≡ length self.now.claims.now }
+        ensures { into.new ≡ ranked self.now.whole self.now.claims.now }
+    {
+        let last = self.claims.len() - 1;
+        let mut remaining = self.whole;
+        for (i, claim) in self.claims[..last].iter().enumerate() {
+            let part = remaining.min(*claim);
+            into[i] = part;
+            remaining -= part;
+        }
+        into[last] = remaining;
     }
-    into[last] = remaining;
 }
 
 // Each part is the smaller of the claim and what remains; the last part is all that remains.
@@ -34,8 +35,7 @@ impl DivisionRule for Ranked {
     ghost all = { λ s w cs h. sum-ranked w cs h };
 
     fn divide(&self, whole: u64, claims: &[u64], into: &mut [u64]) -> Result<(), Refusal> {
-        admitted(whole, claims, into.len())?;
-        write_in_turn(whole, claims, into);
+        Admitted::judge(whole, claims, into.len())?.write_in_turn(into);
         Ok(())
     }
 }

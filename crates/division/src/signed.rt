@@ -24,8 +24,8 @@ fn sign_parts(whole: i64, parts: &[u64], into: &mut [i64])
     requires small { AllByRecursion (λ p. p ≤ 128000000) parts.now }
     ensures { into.new ≡ signed_parts whole parts.now }
 {
-    for i in 0..parts.len() {
-        into[i] = with_sign(whole, parts[i]);
+    for (i, part) in parts.iter().enumerate() {
+        into[i] = with_sign(whole, *part);
     }
 }
 
@@ -41,8 +41,9 @@ pub fn divide_signed<R: DivisionRule>(
     if claims.len() > MOST_CLAIMS || into.len() != claims.len() {
         return Err(Refusal::NotDivisible);
     }
+    // fixed memory: no call allocates, so the parts have room for the most claims
     let mut space = [0; MOST_CLAIMS];
-    let parts = &mut space[0..claims.len()];
+    let parts = &mut space[..claims.len()];
     rule.divide(whole.unsigned_abs(), claims, parts)?;
     sign_parts(whole, parts, into);
     Ok(())

@@ -6,7 +6,6 @@ use Rattle.tables.proofs.Carrying.{sum-cons, carried_all}
 use Rattle.metering.specs.Demand.{before, readings, multiplied, demand_from, demand_of}
 use Rattle.metering.specs.Bounds.{AtMost}
 use Rattle.metering.specs.declared.demand.Unread.{Unread}
-use Rattle.std.specs.Prelude.{ok_or}
 
 -- the readings gathered so far, before those of the meters still to come
 abbrev pub behind : List ℕ → Result (List ℕ) Unread → Result (List ℕ) Unread
@@ -66,12 +65,3 @@ pub demand-made : (read : ℕ → Option ℕ) (meters lent kwhs : List ℕ) (mul
     total ≡ sum (carried_if (λ x. true) (λ x. x) lent) → demand ≡ multiplied total multiplier → Ok demand ≡ demand_of read meters multiplier
 demand-made read meters lent kwhs multiplier total demand r e t d =
     ap Ok (d ∙ ap (λ kwh. multiplied kwh multiplier) (t ∙ total_readings lent kwhs e)) ∙ sym (ap (demand_from multiplier) r)
-
--- what a reading tells that was asked for with a refusal at hand
-pub reading-told : (o : Option ℕ) (e : Unread) (kwh : ℕ) → ok_or o e ≡ Ok kwh → Some kwh ≡ o
-reading-told None e kwh h = absurd (let z : ◌≡◌ {A = ℕ} 0 1 = cc in omega arith)
-reading-told (Some n) e kwh h = let q : n ≡ kwh = cc in ap Some (sym q)
-
-pub unread_told : (o : Option ℕ) (e x : Unread) → ok_or o e ≡ Err x → (None ≡ o) × (e ≡ x)
-unread_told None e x h = (refl, cc)
-unread_told (Some n) e x h = absurd (let z : ◌≡◌ {A = ℕ} 0 1 = cc in omega arith)

@@ -6,3 +6,4 @@ pub mod Apartness
 pub mod Gathering
 pub mod Adding
 pub mod Collecting
+pub mod Asking
