@@ -1,23 +1,21 @@
 -- Rows that belong to owners, and a whole shared out among the rows of one owner.
-use Rattle.std.specs.Prelude.{◌≡◌, ℕ, ◌+◌, ◌<◌, ◌≤◌, cond, List, [], ◌∷◌, length, drop, ℤ, pos, ◌+ℤ◌, ◌==◌, ◌≢◌, slice_index_or, unsigned_abs}
+use Rattle.std.specs.Prelude.{◌≡◌, ℕ, ◌+◌, ◌<◌, ◌≤◌, cond, List, [], ◌∷◌, length, drop, ℤ, pos, ◌+ℤ◌, nat_eq, ◌==◌, ◌≢◌, slice_index_or, unsigned_abs}
 use Rattle.tables.specs.Carried.{claims_of}
+use Rattle.tables.specs.Figures.{added_by, figures_if}
+use Rattle.tables.specs.Keys.{count_if}
 use Rattle.division.specs.Signed.{signed_parts}
 
 -- How many rows the owner has.
 abbrev pub count_of : {T : Type 0} → (T → ℕ) → ℕ → List T → ℕ
-count_of owned owner [] = 0
-count_of owned owner (r ∷ rs) = cond (owned r == owner) 1 0 + count_of owned owner rs
+count_of owned owner rows = count_if (λ r. nat_eq (owned r) owner) rows
 
 -- The figures of the owner's rows, in listed order, where every row has a figure.
 abbrev pub figures_of : {T : Type 0} → (T → ℕ) → ℕ → List T → List ℤ → List ℤ
-figures_of owned owner [] figures = []
-figures_of owned owner (r ∷ rs) [] = []
-figures_of owned owner (r ∷ rs) (x ∷ xs) = cond (owned r == owner) (x ∷ figures_of owned owner rs xs) (figures_of owned owner rs xs)
+figures_of owned owner rows figures = figures_if (λ r. nat_eq (owned r) owner) rows figures
 
 -- What figures come to.
 abbrev pub added_up : List ℤ → ℤ
-added_up [] = pos 0
-added_up (x ∷ xs) = x +ℤ added_up xs
+added_up figures = added_by (λ x. x) figures
 
 -- The owner's rows are given the parts in listed order, one each. Every other row keeps its figure.
 abbrev pub placed : {T : Type 0} → (T → ℕ) → ℕ → List T → List ℤ → List ℤ → List ℤ

@@ -47,16 +47,9 @@ fn spread_out<B: DivisionRule, H: Head, M: Carries>(
     ensures { member_figures.new ≡ figures_of_members (B.DivisionRule.parts second.now) H.Owned.owned H.Head.numbered M.Owned.owned M.Carries.carried
         owner members.now heads.now head_figures.now member_figures.old }
 {
-    for k in 0..heads.len() {
-        let head = &heads[k];
+    for (head, figure) in heads.iter().zip(head_figures) {
         if head.owner() == owner {
-            share_out(
-                second,
-                members,
-                head.number(),
-                head_figures[k],
-                member_figures,
-            );
+            share_out(second, members, head.number(), *figure, member_figures);
         }
     }
 }

@@ -15,13 +15,12 @@ pub fn gather<T: Carries>(rows: &[T], owner: u32) -> Table<u64, MOST_CLAIMS>
     requires { length rows.now ≤ 256 }
     ensures { listed result ≡ claims_of T.Owned.owned T.Carries.carried owner rows.now }
 {
-    let mut claims: Table<u64, MOST_CLAIMS> = Table::new(0);
-    for row in rows {
-        if row.owner() == owner {
-            claims.push(row.kwh());
-        }
-    }
-    claims
+    Table::collect(
+        rows.iter()
+            .filter(|row| row.owner() == owner)
+            .map(|row| row.kwh()),
+        0,
+    )
 }
 
 // Gives the owner's rows their parts in listed order. Every other row keeps its figure.
@@ -30,11 +29,10 @@ fn scatter<T: Owned>(rows: &[T], owner: u32, parts: &[i64], figures: &mut [i64])
     requires each { length parts.now ≡ count_of T.Owned.owned owner rows.now }
     ensures { figures.new ≡ placed T.Owned.owned owner rows.now parts.now figures.old }
 {
-    let mut n = 0;
-    for i in 0..rows.len() {
-        if rows[i].owner() == owner {
-            figures[i] = parts[n];
-            n += 1;
+    let mut left = parts.iter();
+    for (i, row) in rows.iter().enumerate() {
+        if row.owner() == owner {
+            figures[i] = *left.next().unwrap();
         }
     }
 }
@@ -57,15 +55,13 @@ pub(crate) fn give_out<R: DivisionRule, T: Owned>(
     ensures { figures.new ≡ placed T.Owned.owned owner rows.now
         (signed_parts whole (R.DivisionRule.parts rule.now (unsigned_abs whole) claims.now)) figures.old }
 {
-    if claims.len() == 0 {
+    if claims.is_empty() {
         return;
     }
+    // fixed memory: no call allocates, so the parts have room for the most claims
     let mut space = [0; MOST_CLAIMS];
-    let parts = &mut space[0..claims.len()];
-    match divide_signed(rule, whole, claims, parts) {
-        Ok(()) => {}
-        Err(_) => unreachable(),
-    }
+    let parts = &mut space[..claims.len()];
+    divide_signed(rule, whole, claims, parts).unwrap();
     scatter(rows, owner, parts, figures);
 }
 

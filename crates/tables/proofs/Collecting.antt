@@ -7,6 +7,8 @@ use Rattle.tables.specs.Figures.{figure_of, figures_if}
 use Rattle.tables.specs.Keys.{count_if}
 use Rattle.std.specs.Iterator.{AlwaysYields, DrainsIf, Yields}
 use Rattle.std.proofs.lemmas.Iterator.{YieldsList, items_from_drains}
+use Rattle.std.proofs.lemmas.List.{map-id}
+use Rattle.tables.specs.Carried.{carried_if}
 
 module _ {S A B : Type 0} (steps : S → Option A → S → Type 0) (v : A → B) where
   few_of : (all : List B) (s : S) → AlwaysYields steps v s all → (xs : List A) (t : S) → Yields steps s xs t → length xs ≤ length all
@@ -22,13 +24,9 @@ few_items {steps = steps} {v = v} {all = all} {s = s} n chain within xs t y =
     let most = few_of steps v all s chain.runs xs t y in
     omega (arith, most, within)
 
-map_same : {A : Type 0} (xs : List A) → map (λ x. x) xs ≡ xs
-map_same [] = refl
-map_same (x ∷ xs) = ap (λ ys. x ∷ ys) (map_same xs)
-
 -- what was drained from the chain is what it gives
 pub collected : {S A : Type 0} {steps : S → Option A → S → Type 0} {s : S} {all rows : List A} → (xs : List A) × DrainsIf steps (Unit {0}) s xs × (rows ≡ xs) → YieldsList steps (λ x. x) s all → rows ≡ all
-collected r chain = r.2 ∙ sym (map_same r.0) ∙ items_from_drains r.0 r.1 chain
+collected r chain = r.2 ∙ sym (map-id r.0) ∙ items_from_drains r.0 r.1 chain
 
 -- the pairs of rows and figures whose row passes, as the figures of the rows that pass
 pub figures_if-filter : {T F : Type 0} (passes : T → Bool) (rows : List T) (xs : List F) → map (λ (p : T × F). p.1) (filter (λ p. passes p.0) (zip rows xs)) ≡ figures_if passes rows xs
@@ -66,3 +64,24 @@ figure_of-find {T} {F} other passes (r ∷ rs) (x ∷ xs) = either (passes r) (f
         → unwrap_or (option_map (λ (p : T × F). p.1) (cond b (Some (r, x)) (find (λ p. passes p.0) (zip rs xs)))) other ≡ cond b x (figure_of other passes rs xs)
     either true e = refl
     either false e = e
+
+-- what the rows that pass carry
+pub carried_if-filter : {T : Type 0} (passes : T → Bool) (carried : T → ℕ) (rows : List T) → map carried (filter passes rows) ≡ carried_if passes carried rows
+carried_if-filter passes carried [] = refl
+carried_if-filter passes carried (r ∷ rs) = either (passes r) (carried_if-filter passes carried rs)
+  where
+    either : (b : Bool) → map carried (filter passes rs) ≡ carried_if passes carried rs → map carried (cond b (r ∷ filter passes rs) (filter passes rs)) ≡ cond b (carried r ∷ carried_if passes carried rs) (carried_if passes carried rs)
+    either true e = ap (λ ys. carried r ∷ ys) e
+    either false e = e
+
+pub few_carried : {T : Type 0} (passes : T → Bool) (carried : T → ℕ) (rows : List T) (n : ℕ) → count_if passes rows ≤ n → length (map carried (filter passes rows)) ≤ n
+few_carried passes carried [] n few = omega arith
+few_carried passes carried (r ∷ rs) n few = omega (arith, few, most (r ∷ rs))
+  where
+    most : (ts : List _) → length (map carried (filter passes ts)) ≤ count_if passes ts
+    most [] = omega arith
+    most (t ∷ ts) = either (passes t) (most ts)
+      where
+        either : (b : Bool) → length (map carried (filter passes ts)) ≤ count_if passes ts → length (map carried (cond b (t ∷ filter passes ts) (filter passes ts))) ≤ cond b 1 0 + count_if passes ts
+        either true h = omega (arith, h)
+        either false h = omega (arith, h)

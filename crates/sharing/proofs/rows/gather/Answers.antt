@@ -1,29 +1,31 @@
-use Rattle.std.proofs.Common.{Bool, eqb, length, sym, ap, ◌∙◌, arith}
-use Rattle.std.proofs.lemmas.List.{length_push}
-use Rattle.std.proofs.lemmas.Bool.{eq-eqb, ne_eqb}
-use Rattle.tables.specs.Listed.{listed}
-use Rattle.tables.proofs.Carrying.{gather_yes, gather_no, gather_all}
+use Rattle.std.proofs.Common.{rules, tests, eqb, ◌∙◌, arith}
+use Rattle.std.proofs.iter.Serving.{serving}
+use Rattle.std.proofs.lemmas.Iterator.{YieldsList-from_slice, YieldsList-from_map}
+use Rattle.std.proofs.lemmas.Iterator.Consumers.{YieldsList-from_filter, YieldsList-at}
+use Rattle.tables.proofs.Collecting.{collected, few_items, carried_if-filter, few_carried}
+use Rattle.sharing.proofs.Steps.{count_within}
 use Rattle.sharing.proofs.rows.gather.Goals as goal
-use Rattle.sharing.proofs.rows.gather.Goals.{then-owner, else-owner}
 
-pub loop-row-preserved : goal.loop-row-preserved
-loop-row-preserved g c =
-    let rows = c.args.rows.now in
-    let i = c.loop-row.row-index in
-    let x = c.row-item.result in
-    let mine : g.row.T.Denot → Bool = λ r. eqb (g.T.Owned.owned r) c.args.owner in
-    elim c.if-owner.branch [
-      | then-owner w ↦
-          let pushed = ap listed w.claims-is ∙ w.push.ensures in (
-            omega (arith, ap length pushed, length_push (listed c.loop-row.claims) w.kwh.result, c.loop-row.invariant.0),
-            gather_yes mine g.T.Carries.carried rows i x c.loop-row-test.true c.row-item.is (listed c.loop-row.claims) _ _ _ (eq-eqb _ _ (sym c.owner.ensures ∙ w.if-owner.true)) w.kwh.ensures pushed c.loop-row.invariant.1,
-          )
-      | else-owner w ↦
-          let same = ap listed w.claims-is in (
-            omega (arith, ap length same, c.loop-row.invariant.0),
-            gather_no mine g.T.Carries.carried rows i x c.loop-row-test.true c.row-item.is (listed c.loop-row.claims) _ _ (ne_eqb _ _ (λ e. w.if-owner.false (c.owner.ensures ∙ e))) same c.loop-row.invariant.1,
-          )
-    ]
+pub collect-requires : goal.collect-requires
+collect-requires g c = (
+  search rules,
+  (
+    grind serving,
+    (
+      search rules,
+      few_items _
+          (YieldsList-from_map _ g.T.Carries.carried
+          (YieldsList-at c.map.ensures.source (YieldsList-from_filter _ (λ r. eqb (g.T.Owned.owned r) c.args.owner) (YieldsList-from_slice c.args.rows.now (cc)) c.filter.ensures.closure (λ x b q k. search (rules, tests))))
+          c.map.ensures.closure (λ x r q k. search (rules, tests)))
+          (few_carried (λ r. eqb (g.T.Owned.owned r) c.args.owner) g.T.Carries.carried c.args.rows.now _ (omega (arith, count_within g.T.Owned.owned c.args.owner c.args.rows.now, c.requires))),
+    ),
+  ),
+)
 
 pub returns : goal.returns
-returns g c = gather_all (λ r. eqb (g.T.Owned.owned r) c.args.owner) g.T.Carries.carried c.args.rows.now c.loop-row.row-index (listed c.loop-row.claims) _ c.loop-row-test.false c.loop-row.invariant.1
+returns g c =
+    collected c.collect.ensures
+    (YieldsList-from_map _ g.T.Carries.carried
+    (YieldsList-at c.map.ensures.source (YieldsList-from_filter _ (λ r. eqb (g.T.Owned.owned r) c.args.owner) (YieldsList-from_slice c.args.rows.now (cc)) c.filter.ensures.closure (λ x b q k. search (rules, tests))))
+    c.map.ensures.closure (λ x r q k. search (rules, tests)))
+    ∙ carried_if-filter (λ r. eqb (g.T.Owned.owned r) c.args.owner) g.T.Carries.carried c.args.rows.now
