@@ -2,4 +2,5 @@ pub mod Judging
 pub mod View
 pub mod Ranges
 pub mod Looking
+pub mod Keys
 pub mod Filing

@@ -13,10 +13,13 @@ const LEAST_MULTIPLIER: u32 = 10_000;
 
 const MOST_MULTIPLIER: u32 = 12_000;
 
+// The kind of partner that is the power exchange.
+const EXCHANGE: u32 = 1;
+
 pub(crate) fn is_number(number: u32) -> bool
     ensures { result ≡ is_number number }
 {
-    (number >= 1) & (number <= MOST_NUMBER)
+    (1..=MOST_NUMBER).contains(&number)
 }
 
 pub(crate) fn is_figure(kwh: u32) -> bool
@@ -28,20 +31,20 @@ pub(crate) fn is_figure(kwh: u32) -> bool
 pub(crate) fn is_rank(rank: u32) -> bool
     ensures { result ≡ is_rank rank }
 {
-    (rank >= 1) & (rank <= MOST_RANK)
+    (1..=MOST_RANK).contains(&rank)
 }
 
 pub(crate) fn is_multiplier(multiplier: u32) -> bool
     ensures { result ≡ is_multiplier multiplier }
 {
-    (multiplier >= LEAST_MULTIPLIER) & (multiplier <= MOST_MULTIPLIER)
+    (LEAST_MULTIPLIER..=MOST_MULTIPLIER).contains(&multiplier)
 }
 
 // Whether a partner of this kind can have this number.
 pub(crate) fn is_partner(kind: u32, number: u32) -> bool
     ensures { result ≡ is_partner kind number }
 {
-    if kind == 1 {
+    if kind == EXCHANGE {
         number == 0
     } else {
         is_number(number)
