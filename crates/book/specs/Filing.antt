@@ -1,5 +1,5 @@
 -- What each filing call answers, and what it leaves.
-use Rattle.std.specs.Prelude.{◌≡◌, ℕ, Bool, cond, not, ◌&&◌, ◌||◌, List, [], ◌∷◌, ◌++◌, length, is_some, Some, None, Option, Result, MatchResult, ◌==◌, nat_le, nat_lt}
+use Rattle.std.specs.Prelude.{ℕ, Bool, cond, not, ◌&&◌, ◌||◌, List, [], ◌∷◌, ◌++◌, length, is_some, Some, None, Option, ◌==◌, nat_le, nat_lt}
 use Rattle.tables.specs.Apart.{has}
 use Rattle.tables.specs.Filing.{upsert}
 use Rattle.metering.specs.Lookup.{is_number}
@@ -165,15 +165,15 @@ refusal_at f codes kwh (Some key) = key_refusal f codes kwh key
 abbrev pub result_key : LineCodes → Option LineKey
 result_key codes = cond (codes.kind == 3) None (line_key codes)
 
+abbrev pub key_for : Figure → LineCodes → Option LineKey
+key_for (Planned kwh) codes = line_key codes
+key_for (Agreed kwh) codes = result_key codes
+
 abbrev pub line_refusal : Filed → LineCodes → ℕ → Option Refusal
 line_refusal f codes kwh = refusal_at f codes kwh (line_key codes)
 
 abbrev pub result_refusal : Filed → LineCodes → ℕ → Option Refusal
 result_refusal f codes kwh = refusal_at f codes kwh (result_key codes)
-
--- What judging a line gives: its key, where nothing speaks against it, or the first reason that does.
-abbrev pub JudgesLine : Filed → LineCodes → ℕ → Result LineKey Refusal → Type 0
-JudgesLine f codes kwh r = MatchResult r (λ key. (line_key codes ≡ Some key) × (key_refusal f codes kwh key ≡ None)) (λ e. line_refusal f codes kwh ≡ Some e)
 
 abbrev pub set_at : Filed → Figure → Option LineKey → Filed
 set_at f figure None = f

@@ -3,4 +3,5 @@ pub mod View
 pub mod Ranges
 pub mod Looking
 pub mod Keys
+pub mod Figures
 pub mod Filing

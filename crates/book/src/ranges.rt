@@ -1,7 +1,10 @@
 // The values and ranges of what a caller files.
 ghost use Rattle.std.specs.Prelude.{◌≡◌};
 ghost use Rattle.metering.specs.Lookup.{is_number};
+ghost use Rattle.terms.specs.Partners.{partner_code};
 ghost use Rattle.book.specs.Ranges.{is_partner, is_figure, is_rank, is_multiplier};
+
+use terms::partner::Partner;
 
 const MOST_NUMBER: u32 = 99_999;
 
@@ -12,9 +15,6 @@ const MOST_RANK: u32 = 99;
 const LEAST_MULTIPLIER: u32 = 10_000;
 
 const MOST_MULTIPLIER: u32 = 12_000;
-
-// The kind of partner that is the power exchange.
-const EXCHANGE: u32 = 1;
 
 pub(crate) fn is_number(number: u32) -> bool
     ensures { result ≡ is_number number }
@@ -40,13 +40,12 @@ pub(crate) fn is_multiplier(multiplier: u32) -> bool
     (LEAST_MULTIPLIER..=MOST_MULTIPLIER).contains(&multiplier)
 }
 
-// Whether a partner of this kind can have this number.
-pub(crate) fn is_partner(kind: u32, number: u32) -> bool
-    ensures { result ≡ is_partner kind number }
+// Whether the partner can be filed under this number.
+pub(crate) fn is_partner(partner: Partner, number: u32) -> bool
+    ensures { result ≡ is_partner (partner_code partner) number }
 {
-    if kind == EXCHANGE {
-        number == 0
-    } else {
-        is_number(number)
+    match partner {
+        Partner::Exchange => number == 0,
+        Partner::Outside(_) | Partner::Contract(_) => is_number(number),
     }
 }

@@ -1,4 +1,6 @@
 // How lines and shares are made from their key, and amended under it.
+ghost use Rattle.std.specs.Prelude.{◌≡◌};
+ghost use Rattle.book.specs.Figures.{kwh_of};
 ghost use Rattle.book.specs.Filing.{new_share, reshared, new_line, refigured};
 
 use crate::keys::{LineKey, ShareKey};
@@ -17,6 +19,16 @@ pub(crate) struct Shared {
 pub(crate) enum Figure {
     Planned(u32),
     Agreed(u32),
+}
+
+impl Figure {
+    pub(crate) fn kwh(self) -> u32
+        ensures { result ≡ kwh_of self }
+    {
+        match self {
+            Figure::Planned(kwh) | Figure::Agreed(kwh) => kwh,
+        }
+    }
 }
 
 impl Row<ShareKey, Shared> for Share {

@@ -1,7 +1,8 @@
 // Lines and results, and the writing of lines and shares under their keys.
 ghost use Rattle.std.specs.Prelude.{◌≡◌, false};
-ghost use Rattle.book.specs.Filing.{no_share_room, share_filed, no_line_room, figure_set, JudgesLine, line_refusal, result_refusal, line_filed, result_filed};
+ghost use Rattle.book.specs.Filing.{no_share_room, share_filed, no_line_room, figure_set, key_for, refusal_at, set_at, line_refusal, result_refusal, line_filed, result_filed};
 ghost use Rattle.book.specs.Judging.{Judges};
+ghost use Rattle.book.specs.Figures.{kwh_of};
 
 use crate::filings::Filings;
 use crate::keys::{LineCodes, LineKey, ShareKey};
@@ -10,9 +11,6 @@ use crate::rows::{Figure, Shared};
 use tables::filing::file_row;
 use terms::partner::Partner;
 use terms::refusal::Refusal;
-
-// A partner of this kind is a contract.
-const CONTRACT: u32 = 3;
 
 impl Filings {
     // Files a share that finds room.
@@ -31,15 +29,21 @@ impl Filings {
         file_row(&mut self.lines, key, figure);
     }
 
-    // The key of a line that can be filed with these kWh, or why it cannot.
-    fn judge_line(&self, codes: LineCodes, kwh: u32) -> Result<LineKey, Refusal>
-        ensures { JudgesLine self.now codes kwh result }
+    // A line or a result: its codes, and the planned or the agreed kWh.
+    fn file_figure(&mut self, codes: LineCodes, figure: Figure) -> Result<(), Refusal>
+        ensures { Judges (refusal_at self.old codes (kwh_of figure) (key_for figure codes)) self.old (set_at self.old figure (key_for figure codes)) self.new result }
     {
         let key = LineKey::try_from(codes)?;
-        if !(is_number(key.contract) && is_partner(codes.kind, codes.number)) {
+        if matches!(
+            (figure, key.partner),
+            (Figure::Agreed(_), Partner::Contract(_))
+        ) {
+            return Err(Refusal::UnknownCode);
+        }
+        if !(is_number(key.contract) && is_partner(key.partner, codes.number)) {
             return Err(Refusal::NumberOutOfRange);
         }
-        if !is_figure(kwh) {
+        if !is_figure(figure.kwh()) {
             return Err(Refusal::FigureOutOfRange);
         }
         if !self.has_contract(key.contract) {
@@ -51,27 +55,21 @@ impl Filings {
         if self.lacks_line_room(key) {
             return Err(Refusal::Full);
         }
-        Ok(key)
+        self.put_line(key, figure);
+        Ok(())
     }
 
     // A line: a contract, a direction, a partner and the planned kWh.
     pub(crate) fn file_line(&mut self, codes: LineCodes, kwh: u32) -> Result<(), Refusal>
         ensures { Judges (line_refusal self.old codes kwh) self.old (line_filed self.old codes kwh) self.new result }
     {
-        let key = self.judge_line(codes, kwh)?;
-        self.put_line(key, Figure::Planned(kwh));
-        Ok(())
+        self.file_figure(codes, Figure::Planned(kwh))
     }
 
-    // A result: a contract, a direction, the exchange or an outside party, and the agreed kWh. No contract can be its partner.
+    // A result: a contract, a direction, the exchange or an outside party, and the agreed kWh.
     pub(crate) fn file_result(&mut self, codes: LineCodes, kwh: u32) -> Result<(), Refusal>
         ensures { Judges (result_refusal self.old codes kwh) self.old (result_filed self.old codes kwh) self.new result }
     {
-        if codes.kind == CONTRACT {
-            return Err(Refusal::UnknownCode);
-        }
-        let key = self.judge_line(codes, kwh)?;
-        self.put_line(key, Figure::Agreed(kwh));
-        Ok(())
+        self.file_figure(codes, Figure::Agreed(kwh))
     }
 }
