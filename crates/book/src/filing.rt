@@ -7,6 +7,8 @@ use crate::filings::Filings;
 use crate::keys::ShareKey;
 use crate::looking::ALLOWANCE;
 use crate::ranges::{is_figure, is_multiplier, is_number, is_rank};
+use crate::rows::Shared;
+use tables::filing::file_row;
 use terms::codes::{Kind, Method, OwnerKind};
 use terms::records::{Contract, Curtailment, Group, GroupSort, Owner, Place, Plant};
 use terms::refusal::Refusal;
@@ -156,7 +158,7 @@ impl Filings {
         if self.lacks_share_room(key) {
             return Err(Refusal::Full);
         }
-        self.put_share(key, rank, kwh);
+        file_row(&mut self.shares, key, Shared { rank, kwh });
         Ok(())
     }
 

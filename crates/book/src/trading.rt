@@ -1,34 +1,17 @@
-// Lines and results, and the writing of lines and shares under their keys.
-ghost use Rattle.std.specs.Prelude.{◌≡◌, false};
-ghost use Rattle.book.specs.Filing.{no_share_room, share_filed, no_line_room, figure_set, key_for, refusal_at, set_at, line_refusal, result_refusal, line_filed, result_filed};
+// Lines and results: the planned and the agreed kWh of a line.
+ghost use Rattle.book.specs.Filing.{key_for, refusal_at, set_at, line_refusal, result_refusal, line_filed, result_filed};
 ghost use Rattle.book.specs.Judging.{Judges};
 ghost use Rattle.book.specs.Figures.{kwh_of};
 
 use crate::filings::Filings;
-use crate::keys::{LineCodes, LineKey, ShareKey};
+use crate::keys::{LineCodes, LineKey};
 use crate::ranges::{is_figure, is_number, is_partner};
-use crate::rows::{Figure, Shared};
+use crate::rows::Figure;
 use tables::filing::file_row;
 use terms::partner::Partner;
 use terms::refusal::Refusal;
 
 impl Filings {
-    // Files a share that finds room.
-    pub(crate) fn put_share(&mut self, key: ShareKey, rank: u32, kwh: u32)
-        requires { no_share_room self.old key ≡ false }
-        ensures { self.new ≡ share_filed self.old key rank kwh }
-    {
-        file_row(&mut self.shares, key, Shared { rank, kwh });
-    }
-
-    // Sets one figure of a line that finds room.
-    fn put_line(&mut self, key: LineKey, figure: Figure)
-        requires { no_line_room self.old key ≡ false }
-        ensures { self.new ≡ figure_set self.old key figure }
-    {
-        file_row(&mut self.lines, key, figure);
-    }
-
     // A line or a result: its codes, and the planned or the agreed kWh.
     fn file_figure(&mut self, codes: LineCodes, figure: Figure) -> Result<(), Refusal>
         ensures { Judges (refusal_at self.old codes (kwh_of figure) (key_for figure codes)) self.old (set_at self.old figure (key_for figure codes)) self.new result }
@@ -55,7 +38,7 @@ impl Filings {
         if self.lacks_line_room(key) {
             return Err(Refusal::Full);
         }
-        self.put_line(key, figure);
+        file_row(&mut self.lines, key, figure);
         Ok(())
     }
 
