@@ -1,10 +1,11 @@
 -- Whether a record is in the book, and of which sort.
-use Rattle.std.specs.Prelude.{ℕ, Bool, true, false, not, ◌&&◌, ◌||◌, List, unwrap_or, option_map, count_by, ◌==◌, nat_eq}
+use Rattle.std.specs.Prelude.{ℕ, Bool, not, ◌&&◌, ◌||◌, List, unwrap_or, option_map, count_by, ◌==◌, nat_eq}
 use Rattle.std.specs.List.{list_any, find}
 use Rattle.tables.specs.Keys.{count_if}
+use Rattle.terms.specs.Codes.{kind_code}
 use Rattle.terms.specs.Owners.{is_of}
 use Rattle.terms.specs.declared.codes.Kind.{Kind}
-use Rattle.terms.specs.declared.codes.Kind.TheVariants.{Generation, Retail, Negawatt}
+use Rattle.terms.specs.declared.codes.Kind.TheVariants.{Retail}
 use Rattle.terms.specs.declared.codes.OwnerKind.{OwnerKind}
 use Rattle.terms.specs.declared.codes.OwnerKind.TheVariants.{RetailContract, CurtailmentGroup}
 use Rattle.terms.specs.declared.records.Contract.{Contract}
@@ -21,15 +22,7 @@ use Rattle.book.specs.declared.keys.LineKey.{LineKey}
 use Rattle.book.specs.declared.keys.ShareKey.{ShareKey}
 
 abbrev pub same_kind : Kind → Kind → Bool
-same_kind Generation Generation = true
-same_kind Generation Retail = false
-same_kind Generation Negawatt = false
-same_kind Retail Generation = false
-same_kind Retail Retail = true
-same_kind Retail Negawatt = false
-same_kind Negawatt Generation = false
-same_kind Negawatt Retail = false
-same_kind Negawatt Negawatt = true
+same_kind one other = kind_code one == kind_code other
 
 -- Contracts.
 abbrev pub is_contract : ℕ → Contract → Bool
