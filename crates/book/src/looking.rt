@@ -7,20 +7,10 @@ use crate::filings::Filings;
 use crate::keys::{LineKey, ShareKey};
 use tables::keys::{any_fits, count_fitting};
 use terms::codes::{Kind, OwnerKind};
-use terms::records::{Group, GroupSort, Owner};
+use terms::records::{GroupSort, Owner};
 
 // How many lines a contract has at most, how many shares, and how many places an owner.
 pub(crate) const ALLOWANCE: usize = 64;
-
-// The contract of the group with this number; 0 where there is none.
-fn contract_of_group(groups: &[Group], number: u32) -> u32
-    ensures { result ≡ contract_of_group groups.now number }
-{
-    groups
-        .iter()
-        .find(|g| g.number == number)
-        .map_or(0, |g| g.contract)
-}
 
 impl Filings {
     pub(crate) fn has_contract(&self, number: u32) -> bool
@@ -85,6 +75,17 @@ impl Filings {
         }
     }
 
+    // The contract of the group with this number; 0 where there is none.
+    fn contract_of_group(&self, number: u32) -> u32
+        ensures { result ≡ contract_of_group self.now.groups number }
+    {
+        let groups = self.groups.as_slice();
+        groups
+            .iter()
+            .find(|g| g.number == number)
+            .map_or(0, |g| g.contract)
+    }
+
     // Whether another share at the plant has this rank.
     pub(crate) fn has_outranking(&self, key: ShareKey, rank: u32) -> bool
         ensures { result ≡ has_outranking self.now key rank }
@@ -104,11 +105,10 @@ impl Filings {
     fn count_shares(&self, contract: u32) -> usize
         ensures { result ≡ shares_of_contract self.now contract }
     {
-        let groups = self.groups.as_slice();
-        self.shares
-            .as_slice()
+        let shares = self.shares.as_slice();
+        shares
             .iter()
-            .filter(|s| contract_of_group(groups, s.group) == contract)
+            .filter(|s| self.contract_of_group(s.group) == contract)
             .count()
     }
 
@@ -116,18 +116,15 @@ impl Filings {
     fn count_lines(&self, contract: u32) -> usize
         ensures { result ≡ lines_of_contract self.now contract }
     {
-        self.lines
-            .as_slice()
-            .iter()
-            .filter(|l| l.contract == contract)
-            .count()
+        let lines = self.lines.as_slice();
+        lines.iter().filter(|l| l.contract == contract).count()
     }
 
     // Whether a new share of this key finds no room.
     pub(crate) fn lacks_share_room(&self, key: ShareKey) -> bool
         ensures { result ≡ no_share_room self.now key }
     {
-        let contract = contract_of_group(self.groups.as_slice(), key.group);
+        let contract = self.contract_of_group(key.group);
         !any_fits(self.shares.as_slice(), key)
             && (self.shares.is_full() || self.count_shares(contract) >= ALLOWANCE)
     }
