@@ -4,11 +4,6 @@ use Rattle.std.proofs.lemmas.Bool.{or_parts, leb-false}
 use Rattle.tables.specs.Apart.{has}
 use Rattle.tables.specs.Keys.{find}
 use Rattle.tables.proofs.Finding.{found-has}
-use Rattle.terms.specs.declared.records.Share.{Share}
-
--- what is read past the end of a list of shares
-abbrev pub blank : Share
-blank = record { group = 0; plant = 0; rank = 0; planned = 0 }
 
 pub room_left : {T : Type 0} (passes : T → Bool) (rows : List T) (most : ℕ) (more : Bool) → (not (has passes rows) && (leb most (length rows) || more)) ≡ false → find passes rows ≡ None → length rows < most
 room_left passes rows most more e none =

@@ -3,14 +3,11 @@ use Rattle.std.specs.Prelude.{ℕ, Bool, cond, not, ◌&&◌, ◌||◌, List, []
 use Rattle.tables.specs.Apart.{has}
 use Rattle.tables.specs.Filing.{upsert}
 use Rattle.metering.specs.Lookup.{is_number}
-use Rattle.terms.specs.Codes.{kind_of, direction_of, owner_kind_of, method_of, stated}
-use Rattle.terms.specs.Partners.{partner_of}
-use Rattle.terms.specs.declared.codes.Direction.{Direction}
+use Rattle.terms.specs.Codes.{kind_of, owner_kind_of, method_of, stated}
 use Rattle.terms.specs.declared.codes.Kind.{Kind}
 use Rattle.terms.specs.declared.codes.Kind.TheVariants.{Generation, Retail, Negawatt}
 use Rattle.terms.specs.declared.codes.Method.{Method}
 use Rattle.terms.specs.declared.codes.OwnerKind.{OwnerKind}
-use Rattle.terms.specs.declared.partner.Partner.{Partner}
 use Rattle.terms.specs.declared.records.Contract.{Contract}
 use Rattle.terms.specs.declared.records.Group.{Group}
 use Rattle.terms.specs.declared.records.GroupSort.TheVariants.{Generation as Generating, Curtailment as Curtailing}
@@ -21,10 +18,14 @@ use Rattle.terms.specs.declared.records.Share.{Share}
 use Rattle.terms.specs.declared.refusal.Refusal.{Refusal}
 use Rattle.terms.specs.declared.refusal.Refusal.TheVariants.{UnknownCode, NumberOutOfRange, FigureOutOfRange, UnknownRecord, NumberTaken, TradeWithItself, PlanAboveBaseline, RankTaken, Full}
 use Rattle.settlement.specs.Area.{Filed}
+use Rattle.book.specs.declared.keys.LineCodes.{LineCodes}
 use Rattle.book.specs.declared.keys.LineKey.{LineKey}
 use Rattle.book.specs.declared.keys.ShareKey.{ShareKey}
+use Rattle.book.specs.declared.rows.Figure.{Figure}
+use Rattle.book.specs.declared.rows.Figure.TheVariants.{Planned, Agreed}
 use Rattle.book.specs.Judging.{first}
-use Rattle.book.specs.Looking.{has_contract, has_contract_of, has_group, has_generating_group, has_plant, has_meter, has_owner, places_of, is_share, outranks, contract_of_group, shares_of_contract, is_line, lines_of_contract}
+use Rattle.book.specs.Keys.{line_key}
+use Rattle.book.specs.Looking.{has_contract, has_contract_of, has_group, has_generating_group, has_plant, has_meter, has_owner, places_of, is_share, has_outranking, contract_of_group, shares_of_contract, is_line, lines_of_contract}
 use Rattle.book.specs.Ranges.{is_partner, is_figure, is_rank, is_multiplier}
 
 -- One table changed, the others as they were.
@@ -119,7 +120,7 @@ share_refusal f group plant rank kwh = first (
     (not (is_number group && is_number plant), NumberOutOfRange)
     ∷ (not (is_rank rank && is_figure kwh), FigureOutOfRange)
     ∷ (not (has_generating_group f group && has_plant f plant), UnknownRecord)
-    ∷ (has (outranks (share_key group plant) rank) f.shares, RankTaken)
+    ∷ (has_outranking f (share_key group plant) rank, RankTaken)
     ∷ (no_share_room f (share_key group plant), Full)
     ∷ [])
 
@@ -139,63 +140,50 @@ no_line_room f key = not (has (is_line key) f.lines) && (nat_le 512 (length f.li
 abbrev pub new_line : LineKey → ℕ → ℕ → Line
 new_line key planned agreed = record { contract = key.contract; direction = key.direction; partner = key.partner; planned = planned; agreed = agreed }
 
-abbrev pub replanned : ℕ → Line → Line
-replanned kwh l = record { contract = l.contract; direction = l.direction; partner = l.partner; planned = kwh; agreed = l.agreed }
+abbrev pub refigured : Figure → Line → Line
+refigured (Planned kwh) l = record { contract = l.contract; direction = l.direction; partner = l.partner; planned = kwh; agreed = l.agreed }
+refigured (Agreed kwh) l = record { contract = l.contract; direction = l.direction; partner = l.partner; planned = l.planned; agreed = kwh }
 
-abbrev pub reagreed : ℕ → Line → Line
-reagreed kwh l = record { contract = l.contract; direction = l.direction; partner = l.partner; planned = l.planned; agreed = kwh }
-
-abbrev pub line_planned : Filed → LineKey → ℕ → Filed
-line_planned f key kwh = with_lines f (upsert (is_line key) (replanned kwh) (new_line key kwh 0) f.lines)
-
-abbrev pub line_agreed : Filed → LineKey → ℕ → Filed
-line_agreed f key kwh = with_lines f (upsert (is_line key) (reagreed kwh) (new_line key 0 kwh) f.lines)
-
--- The key of a line, where direction and partner have the values of one. A result takes no contract, kind 3, as partner.
-abbrev pub key_of : ℕ → Option Direction → Option Partner → Option LineKey
-key_of contract None partner = None
-key_of contract (Some direction) None = None
-key_of contract (Some direction) (Some partner) = Some (record { contract = contract; direction = direction; partner = partner })
-
-abbrev pub line_key : ℕ → ℕ → ℕ → ℕ → Option LineKey
-line_key contract direction kind number = key_of contract (direction_of direction) (partner_of kind number)
-
-abbrev pub result_key : ℕ → ℕ → ℕ → ℕ → Option LineKey
-result_key contract direction kind number = cond (kind == 3) None (line_key contract direction kind number)
+abbrev pub figure_set : Filed → LineKey → Figure → Filed
+figure_set f key figure = with_lines f (upsert (is_line key) (refigured figure) (refigured figure (new_line key 0 0)) f.lines)
 
 -- What judges a line by its key.
-abbrev pub key_refusal : Filed → ℕ → ℕ → ℕ → LineKey → Option Refusal
-key_refusal f kind number kwh key = first (
-    (not (is_number key.contract && is_partner kind number), NumberOutOfRange)
+abbrev pub key_refusal : Filed → LineCodes → ℕ → LineKey → Option Refusal
+key_refusal f codes kwh key = first (
+    (not (is_number key.contract && is_partner codes.kind codes.number), NumberOutOfRange)
     ∷ (not (is_figure kwh), FigureOutOfRange)
     ∷ (not (has_contract f key.contract), UnknownRecord)
-    ∷ (kind == 3 && (number == key.contract), TradeWithItself)
+    ∷ (codes.kind == 3 && (codes.number == key.contract), TradeWithItself)
     ∷ (no_line_room f key, Full)
     ∷ [])
 
-abbrev pub refusal_at : Filed → ℕ → ℕ → ℕ → Option LineKey → Option Refusal
-refusal_at f kind number kwh None = Some UnknownCode
-refusal_at f kind number kwh (Some key) = key_refusal f kind number kwh key
+abbrev pub refusal_at : Filed → LineCodes → ℕ → Option LineKey → Option Refusal
+refusal_at f codes kwh None = Some UnknownCode
+refusal_at f codes kwh (Some key) = key_refusal f codes kwh key
 
-abbrev pub line_refusal : Filed → ℕ → ℕ → ℕ → ℕ → ℕ → Option Refusal
-line_refusal f contract direction kind number kwh = refusal_at f kind number kwh (line_key contract direction kind number)
+-- A result takes no contract, kind 3, as partner.
+abbrev pub result_key : LineCodes → Option LineKey
+result_key codes = cond (codes.kind == 3) None (line_key codes)
 
-abbrev pub result_refusal : Filed → ℕ → ℕ → ℕ → ℕ → ℕ → Option Refusal
-result_refusal f contract direction kind number kwh = refusal_at f kind number kwh (result_key contract direction kind number)
+abbrev pub key_for : Figure → LineCodes → Option LineKey
+key_for (Planned kwh) codes = line_key codes
+key_for (Agreed kwh) codes = result_key codes
 
-abbrev pub planned_at : Filed → Option LineKey → ℕ → Filed
-planned_at f None kwh = f
-planned_at f (Some key) kwh = line_planned f key kwh
+abbrev pub line_refusal : Filed → LineCodes → ℕ → Option Refusal
+line_refusal f codes kwh = refusal_at f codes kwh (line_key codes)
 
-abbrev pub agreed_at : Filed → Option LineKey → ℕ → Filed
-agreed_at f None kwh = f
-agreed_at f (Some key) kwh = line_agreed f key kwh
+abbrev pub result_refusal : Filed → LineCodes → ℕ → Option Refusal
+result_refusal f codes kwh = refusal_at f codes kwh (result_key codes)
 
-abbrev pub line_filed : Filed → ℕ → ℕ → ℕ → ℕ → ℕ → Filed
-line_filed f contract direction kind number kwh = planned_at f (line_key contract direction kind number) kwh
+abbrev pub set_at : Filed → Figure → Option LineKey → Filed
+set_at f figure None = f
+set_at f figure (Some key) = figure_set f key figure
 
-abbrev pub result_filed : Filed → ℕ → ℕ → ℕ → ℕ → ℕ → Filed
-result_filed f contract direction kind number kwh = agreed_at f (result_key contract direction kind number) kwh
+abbrev pub line_filed : Filed → LineCodes → ℕ → Filed
+line_filed f codes kwh = set_at f (Planned kwh) (line_key codes)
+
+abbrev pub result_filed : Filed → LineCodes → ℕ → Filed
+result_filed f codes kwh = set_at f (Agreed kwh) (result_key codes)
 
 -- place: a meter number and its owner.
 abbrev pub place_refusal_for : Filed → ℕ → Option OwnerKind → ℕ → Option Refusal
@@ -212,7 +200,7 @@ place_refusal f meter kind owner = place_refusal_for f meter (owner_kind_of kind
 
 abbrev pub place_of : Filed → ℕ → Option OwnerKind → ℕ → Filed
 place_of f meter None owner = f
-place_of f meter (Some kind) owner = with_places f (f.places ++ record { meter = meter; owner_kind = kind; owner = owner } ∷ [])
+place_of f meter (Some kind) owner = with_places f (f.places ++ record { meter = meter; owner = record { kind = kind; number = owner } } ∷ [])
 
 abbrev pub place_filed : Filed → ℕ → ℕ → ℕ → Filed
 place_filed f meter kind owner = place_of f meter (owner_kind_of kind) owner

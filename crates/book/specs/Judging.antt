@@ -1,5 +1,5 @@
 -- How a call is judged: the first reason that applies decides, and a call that is turned down changes nothing.
-use Rattle.std.specs.Prelude.{Bool, cond, List, [], ◌∷◌, Some, None, Ok, Err, Option, Result}
+use Rattle.std.specs.Prelude.{◌≡◌, Bool, cond, List, [], ◌∷◌, Some, None, Ok, Err, Option, Result}
 use Rattle.terms.specs.declared.refusal.Refusal.{Refusal}
 
 -- The first refusal whose reason applies.
@@ -15,3 +15,8 @@ answer (Some e) x = Err e
 abbrev pub after : {S : Type 0} → Option Refusal → S → S → S
 after None before done = done
 after (Some e) before done = before
+
+-- A call that is judged tells its refusal, if it has one, and leaves what was there; else it does what it does.
+pub record Judges {S : Type 0} (refusal : Option Refusal) (before done now : S) (answered : Result (Unit {0}) Refusal) : Type 0 where
+  pub told : answered ≡ answer refusal tt
+  pub left : now ≡ after refusal before done

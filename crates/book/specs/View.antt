@@ -1,9 +1,9 @@
 -- What was filed, as the lists of its records.
 use Rattle.tables.specs.Listed.{listed}
 use Rattle.settlement.specs.Area.{Filed}
-use Rattle.book.specs.declared.filings.Filings.{Filings}
+use Rattle.book.specs.declared.filings.Filings.TheInside.{Inside}
 
-abbrev pub filed : Filings → Filed
+abbrev pub filed : Inside → Filed
 filed f = record {
   contracts = listed f.contracts;
   groups = listed f.groups;

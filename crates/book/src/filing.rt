@@ -1,14 +1,15 @@
 // The filing calls, but for the slip: each judges what it is given in order, and adds or changes one record.
 ghost use Rattle.std.specs.Prelude.{◌≡◌};
-ghost use Rattle.book.specs.Judging.{answer, after};
-ghost use Rattle.book.specs.View.{filed};
+ghost use Rattle.book.specs.Judging.{Judges};
 ghost use Rattle.book.specs.Filing.{contract_refusal, contract_filed, group_refusal, group_filed, curtailment_refusal, curtailment_filed, plant_refusal, plant_filed, share_key, share_refusal, share_filed, place_refusal, place_filed};
 
 use crate::filings::Filings;
 use crate::keys::ShareKey;
 use crate::looking::ALLOWANCE;
 use crate::ranges::{is_figure, is_multiplier, is_number, is_rank};
-use terms::codes::{Coded, Kind, Method, OwnerKind};
+use crate::rows::Shared;
+use tables::filing::file_row;
+use terms::codes::{Kind, Method, OwnerKind};
 use terms::records::{Contract, Curtailment, Group, GroupSort, Owner, Place, Plant};
 use terms::refusal::Refusal;
 
@@ -20,12 +21,9 @@ impl Filings {
         kind: u32,
         multiplier: u32,
     ) -> Result<(), Refusal>
-        ensures told { result ≡ answer (contract_refusal (filed self.old) number kind multiplier) tt }
-        ensures left { filed self.new ≡ after (contract_refusal (filed self.old) number kind multiplier) (filed self.old) (contract_filed (filed self.old) number kind multiplier) }
+        ensures { Judges (contract_refusal self.old number kind multiplier) self.old (contract_filed self.old number kind multiplier) self.new result }
     {
-        let Some(kind) = Kind::from_code(kind) else {
-            return Err(Refusal::UnknownCode);
-        };
+        let kind = Kind::try_from(kind)?;
         if !is_number(number) {
             return Err(Refusal::NumberOutOfRange);
         }
@@ -48,10 +46,9 @@ impl Filings {
 
     // A generation group: a number and its generation contract.
     pub(crate) fn file_group(&mut self, number: u32, contract: u32) -> Result<(), Refusal>
-        ensures told { result ≡ answer (group_refusal (filed self.old) number contract) tt }
-        ensures left { filed self.new ≡ after (group_refusal (filed self.old) number contract) (filed self.old) (group_filed (filed self.old) number contract) }
+        ensures { Judges (group_refusal self.old number contract) self.old (group_filed self.old number contract) self.new result }
     {
-        if !(is_number(number) & is_number(contract)) {
+        if !(is_number(number) && is_number(contract)) {
             return Err(Refusal::NumberOutOfRange);
         }
         if !self.has_contract_of(Kind::Generation, contract) {
@@ -81,20 +78,17 @@ impl Filings {
         plan: u32,
         method: u32,
     ) -> Result<(), Refusal>
-        ensures told { result ≡ answer (curtailment_refusal (filed self.old) number contract retailer baseline plan method) tt }
-        ensures left { filed self.new ≡ after (curtailment_refusal (filed self.old) number contract retailer baseline plan method) (filed self.old) (curtailment_filed (filed self.old) number contract retailer baseline plan method) }
+        ensures { Judges (curtailment_refusal self.old number contract retailer baseline plan method) self.old (curtailment_filed self.old number contract retailer baseline plan method) self.new result }
     {
-        let Some(method) = Method::filed(method) else {
-            return Err(Refusal::UnknownCode);
-        };
-        if !(is_number(number) & is_number(contract) & is_number(retailer)) {
+        let method = Method::filed(method)?;
+        if !(is_number(number) && is_number(contract) && is_number(retailer)) {
             return Err(Refusal::NumberOutOfRange);
         }
-        if !(is_figure(baseline) & is_figure(plan)) {
+        if !(is_figure(baseline) && is_figure(plan)) {
             return Err(Refusal::FigureOutOfRange);
         }
         if !(self.has_contract_of(Kind::Negawatt, contract)
-            & self.has_contract_of(Kind::Retail, retailer))
+            && self.has_contract_of(Kind::Retail, retailer))
         {
             return Err(Refusal::UnknownRecord);
         }
@@ -123,8 +117,7 @@ impl Filings {
 
     // A plant: a meter number.
     pub(crate) fn file_plant(&mut self, meter: u32) -> Result<(), Refusal>
-        ensures told { result ≡ answer (plant_refusal (filed self.old) meter) tt }
-        ensures left { filed self.new ≡ after (plant_refusal (filed self.old) meter) (filed self.old) (plant_filed (filed self.old) meter) }
+        ensures { Judges (plant_refusal self.old meter) self.old (plant_filed self.old meter) self.new result }
     {
         if !is_number(meter) {
             return Err(Refusal::NumberOutOfRange);
@@ -147,16 +140,15 @@ impl Filings {
         rank: u32,
         kwh: u32,
     ) -> Result<(), Refusal>
-        ensures told { result ≡ answer (share_refusal (filed self.old) group plant rank kwh) tt }
-        ensures left { filed self.new ≡ after (share_refusal (filed self.old) group plant rank kwh) (filed self.old) (share_filed (filed self.old) (share_key group plant) rank kwh) }
+        ensures { Judges (share_refusal self.old group plant rank kwh) self.old (share_filed self.old (share_key group plant) rank kwh) self.new result }
     {
-        if !(is_number(group) & is_number(plant)) {
+        if !(is_number(group) && is_number(plant)) {
             return Err(Refusal::NumberOutOfRange);
         }
-        if !(is_rank(rank) & is_figure(kwh)) {
+        if !(is_rank(rank) && is_figure(kwh)) {
             return Err(Refusal::FigureOutOfRange);
         }
-        if !(self.has_generating_group(group) & self.has_plant(plant)) {
+        if !(self.has_generating_group(group) && self.has_plant(plant)) {
             return Err(Refusal::UnknownRecord);
         }
         let key = ShareKey { group, plant };
@@ -166,39 +158,31 @@ impl Filings {
         if self.lacks_share_room(key) {
             return Err(Refusal::Full);
         }
-        self.put_share(key, rank, kwh);
+        file_row(&mut self.shares, key, Shared { rank, kwh });
         Ok(())
     }
 
     // A place: a meter number and its owner.
     pub(crate) fn file_place(&mut self, meter: u32, kind: u32, owner: u32) -> Result<(), Refusal>
-        ensures told { result ≡ answer (place_refusal (filed self.old) meter kind owner) tt }
-        ensures left { filed self.new ≡ after (place_refusal (filed self.old) meter kind owner) (filed self.old) (place_filed (filed self.old) meter kind owner) }
+        ensures { Judges (place_refusal self.old meter kind owner) self.old (place_filed self.old meter kind owner) self.new result }
     {
-        let Some(kind) = OwnerKind::from_code(kind) else {
-            return Err(Refusal::UnknownCode);
+        let owner = Owner {
+            kind: OwnerKind::try_from(kind)?,
+            number: owner,
         };
-        if !(is_number(meter) & is_number(owner)) {
+        if !(is_number(meter) && is_number(owner.number)) {
             return Err(Refusal::NumberOutOfRange);
         }
-        if !self.has_owner(kind, owner) {
+        if !self.has_owner(owner) {
             return Err(Refusal::UnknownRecord);
         }
         if self.has_meter(meter) {
             return Err(Refusal::NumberTaken);
         }
-        let owner = Owner {
-            kind,
-            number: owner,
-        };
-        if self.places.is_full() | (self.count_places(owner) >= ALLOWANCE) {
+        if self.places.is_full() || self.count_places(owner) >= ALLOWANCE {
             return Err(Refusal::Full);
         }
-        self.places.push(Place {
-            meter,
-            owner_kind: owner.kind,
-            owner: owner.number,
-        });
+        self.places.push(Place { meter, owner });
         Ok(())
     }
 }

@@ -1,4 +1,5 @@
 // What was filed for a half hour: six tables of records, which filing calls alone change.
+use std::marker::Model;
 use tables::Table;
 use terms::records::{Contract, Group, Line, Place, Plant, Share};
 
@@ -23,4 +24,15 @@ pub(crate) struct Filings {
     pub(crate) shares: Table<Share, MOST_SHARES>,
     pub(crate) lines: Table<Line, MOST_LINES>,
     pub(crate) places: Table<Place, MOST_PLACES>,
+}
+
+// A clause sees the lists of the records.
+impl Model for Filings {
+    ghost use Rattle.settlement.specs.Area.{Filed};
+
+    ghost Value = { Filed };
+
+    ghost use Rattle.book.specs.View.{filed};
+
+    ghost view = { filed };
 }

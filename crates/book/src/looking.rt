@@ -1,141 +1,139 @@
 // Whether a record is in the book, and of which sort; and how much room is left.
-ghost use Rattle.std.specs.Prelude.{◌≡◌, nat_eq};
-ghost use Rattle.tables.specs.Keys.{count_if};
-ghost use Rattle.book.specs.Looking.{has_contract, has_contract_of, has_group, has_generating_group, has_curtailment_group, has_plant, has_place, has_meter, has_owner, places_of, contract_of_group, shares_of_contract};
+ghost use Rattle.std.specs.Prelude.{◌≡◌};
+ghost use Rattle.book.specs.Looking.{has_contract, has_contract_of, has_group, has_generating_group, has_curtailment_group, has_plant, has_place, has_meter, has_owner, has_outranking, places_of, contract_of_group, shares_of_contract, lines_of_contract};
 ghost use Rattle.book.specs.Filing.{no_line_room, no_share_room};
-ghost use Rattle.book.specs.View.{filed};
 
 use crate::filings::Filings;
-use crate::keys::{Curtailing, Generating, LineKey, Numbered, OfContract, OfKind, ShareKey};
-use tables::keys::{any_fits, count_fitting, find_row};
+use crate::keys::{LineKey, ShareKey};
+use tables::keys::{any_fits, count_fitting};
 use terms::codes::{Kind, OwnerKind};
-use terms::records::{Group, Owner, Share};
+use terms::records::{GroupSort, Owner};
 
 // How many lines a contract has at most, how many shares, and how many places an owner.
 pub(crate) const ALLOWANCE: usize = 64;
 
-// The contract of the group with this number; 0 where there is none.
-fn contract_of_group(groups: &[Group], number: u32) -> u32
-    ensures { result ≡ contract_of_group groups.now number }
-{
-    match find_row(groups, Numbered { number }) {
-        Some(group) => group.contract,
-        None => 0,
-    }
-}
-
-// How many shares the groups of a contract have.
-fn count_shares(groups: &[Group], shares: &[Share], contract: u32) -> usize
-    ensures { result ≡ count_if (λ s. nat_eq (contract_of_group groups.now s.group) contract) shares.now }
-{
-    let mut count: usize = 0;
-    for share in shares {
-        if contract_of_group(groups, share.group) == contract {
-            count += 1;
-        }
-    }
-    count
-}
-
 impl Filings {
     pub(crate) fn has_contract(&self, number: u32) -> bool
-        ensures { result ≡ has_contract (filed self.now) number }
+        ensures { result ≡ has_contract self.now number }
     {
-        any_fits(self.contracts.as_slice(), Numbered { number })
+        self.contracts.as_slice().iter().any(|c| c.number == number)
     }
 
     pub(crate) fn has_contract_of(&self, kind: Kind, number: u32) -> bool
-        ensures { result ≡ has_contract_of (filed self.now) kind number }
+        ensures { result ≡ has_contract_of self.now kind number }
     {
-        any_fits(self.contracts.as_slice(), OfKind { kind, number })
+        let contracts = self.contracts.as_slice();
+        contracts
+            .iter()
+            .any(|c| c.number == number && c.kind == kind)
     }
 
     pub(crate) fn has_group(&self, number: u32) -> bool
-        ensures { result ≡ has_group (filed self.now) number }
+        ensures { result ≡ has_group self.now number }
     {
-        any_fits(self.groups.as_slice(), Numbered { number })
+        self.groups.as_slice().iter().any(|g| g.number == number)
     }
 
     pub(crate) fn has_generating_group(&self, number: u32) -> bool
-        ensures { result ≡ has_generating_group (filed self.now) number }
+        ensures { result ≡ has_generating_group self.now number }
     {
-        any_fits(self.groups.as_slice(), Generating { number })
+        let groups = self.groups.as_slice();
+        groups.iter().any(|g| g.number == number && matches!(g.sort, GroupSort::Generation))
     }
 
     pub(crate) fn has_curtailment_group(&self, number: u32) -> bool
-        ensures { result ≡ has_curtailment_group (filed self.now) number }
+        ensures { result ≡ has_curtailment_group self.now number }
     {
-        any_fits(self.groups.as_slice(), Curtailing { number })
+        let groups = self.groups.as_slice();
+        groups.iter().any(|g| g.number == number && matches!(g.sort, GroupSort::Curtailment(_)))
     }
 
     pub(crate) fn has_plant(&self, meter: u32) -> bool
-        ensures { result ≡ has_plant (filed self.now) meter }
+        ensures { result ≡ has_plant self.now meter }
     {
-        any_fits(self.plants.as_slice(), Numbered { number: meter })
+        self.plants.as_slice().iter().any(|p| p.meter == meter)
     }
 
     fn has_place(&self, meter: u32) -> bool
-        ensures { result ≡ has_place (filed self.now) meter }
+        ensures { result ≡ has_place self.now meter }
     {
-        any_fits(self.places.as_slice(), Numbered { number: meter })
+        self.places.as_slice().iter().any(|p| p.meter == meter)
     }
 
     pub(crate) fn has_meter(&self, meter: u32) -> bool
-        ensures { result ≡ has_meter (filed self.now) meter }
+        ensures { result ≡ has_meter self.now meter }
     {
-        self.has_plant(meter) | self.has_place(meter)
+        self.has_plant(meter) || self.has_place(meter)
     }
 
-    pub(crate) fn has_owner(&self, kind: OwnerKind, number: u32) -> bool
-        ensures { result ≡ has_owner (filed self.now) kind number }
+    pub(crate) fn has_owner(&self, owner: Owner) -> bool
+        ensures { result ≡ has_owner self.now owner.kind owner.number }
     {
-        match kind {
-            OwnerKind::RetailContract => self.has_contract_of(Kind::Retail, number),
-            OwnerKind::CurtailmentGroup => self.has_curtailment_group(number),
+        match owner.kind {
+            OwnerKind::RetailContract => self.has_contract_of(Kind::Retail, owner.number),
+            OwnerKind::CurtailmentGroup => self.has_curtailment_group(owner.number),
         }
+    }
+
+    // The contract of the group with this number; 0 where there is none.
+    fn contract_of_group(&self, number: u32) -> u32
+        ensures { result ≡ contract_of_group self.now.groups number }
+    {
+        let groups = self.groups.as_slice();
+        groups
+            .iter()
+            .find(|g| g.number == number)
+            .map_or(0, |g| g.contract)
+    }
+
+    // Whether another share at the plant has this rank.
+    pub(crate) fn has_outranking(&self, key: ShareKey, rank: u32) -> bool
+        ensures { result ≡ has_outranking self.now key rank }
+    {
+        let shares = self.shares.as_slice();
+        shares.iter().any(|s| s.plant == key.plant && s.rank == rank && s.group != key.group)
     }
 
     // How many places the owner has.
     pub(crate) fn count_places(&self, owner: Owner) -> usize
-        ensures { result ≡ places_of (filed self.now) owner }
+        ensures { result ≡ places_of self.now owner }
     {
         count_fitting(self.places.as_slice(), owner)
     }
 
-    // How many shares the contract of the group with this number has.
-    fn count_beside(&self, group: u32) -> usize
-        ensures { result ≡ shares_of_contract (filed self.now) (contract_of_group (filed self.now).groups group) }
+    // How many shares the groups of the contract have.
+    fn count_shares(&self, contract: u32) -> usize
+        ensures { result ≡ shares_of_contract self.now contract }
     {
-        let groups = self.groups.as_slice();
-        count_shares(
-            groups,
-            self.shares.as_slice(),
-            contract_of_group(groups, group),
-        )
+        let shares = self.shares.as_slice();
+        shares
+            .iter()
+            .filter(|s| self.contract_of_group(s.group) == contract)
+            .count()
+    }
+
+    // How many lines the contract has.
+    fn count_lines(&self, contract: u32) -> usize
+        ensures { result ≡ lines_of_contract self.now contract }
+    {
+        let lines = self.lines.as_slice();
+        lines.iter().filter(|l| l.contract == contract).count()
     }
 
     // Whether a new share of this key finds no room.
     pub(crate) fn lacks_share_room(&self, key: ShareKey) -> bool
-        ensures { result ≡ no_share_room (filed self.now) key }
+        ensures { result ≡ no_share_room self.now key }
     {
-        let known = any_fits(self.shares.as_slice(), key);
-        let full = self.shares.is_full();
-        let shares = self.count_beside(key.group);
-        !known & (full | (shares >= ALLOWANCE))
+        let contract = self.contract_of_group(key.group);
+        !any_fits(self.shares.as_slice(), key)
+            && (self.shares.is_full() || self.count_shares(contract) >= ALLOWANCE)
     }
 
     // Whether a new line of this key finds no room.
     pub(crate) fn lacks_line_room(&self, key: LineKey) -> bool
-        ensures { result ≡ no_line_room (filed self.now) key }
+        ensures { result ≡ no_line_room self.now key }
     {
-        let known = any_fits(self.lines.as_slice(), key);
-        let full = self.lines.is_full();
-        let lines = count_fitting(
-            self.lines.as_slice(),
-            OfContract {
-                contract: key.contract,
-            },
-        );
-        !known & (full | (lines >= ALLOWANCE))
+        !any_fits(self.lines.as_slice(), key)
+            && (self.lines.is_full() || self.count_lines(key.contract) >= ALLOWANCE)
     }
 }

@@ -1,7 +1,10 @@
 // The values and ranges of what a caller files.
 ghost use Rattle.std.specs.Prelude.{◌≡◌};
 ghost use Rattle.metering.specs.Lookup.{is_number};
+ghost use Rattle.terms.specs.Partners.{partner_code};
 ghost use Rattle.book.specs.Ranges.{is_partner, is_figure, is_rank, is_multiplier};
+
+use terms::partner::Partner;
 
 const MOST_NUMBER: u32 = 99_999;
 
@@ -16,7 +19,7 @@ const MOST_MULTIPLIER: u32 = 12_000;
 pub(crate) fn is_number(number: u32) -> bool
     ensures { result ≡ is_number number }
 {
-    (number >= 1) & (number <= MOST_NUMBER)
+    (1..=MOST_NUMBER).contains(&number)
 }
 
 pub(crate) fn is_figure(kwh: u32) -> bool
@@ -28,22 +31,21 @@ pub(crate) fn is_figure(kwh: u32) -> bool
 pub(crate) fn is_rank(rank: u32) -> bool
     ensures { result ≡ is_rank rank }
 {
-    (rank >= 1) & (rank <= MOST_RANK)
+    (1..=MOST_RANK).contains(&rank)
 }
 
 pub(crate) fn is_multiplier(multiplier: u32) -> bool
     ensures { result ≡ is_multiplier multiplier }
 {
-    (multiplier >= LEAST_MULTIPLIER) & (multiplier <= MOST_MULTIPLIER)
+    (LEAST_MULTIPLIER..=MOST_MULTIPLIER).contains(&multiplier)
 }
 
-// Whether a partner of this kind can have this number.
-pub(crate) fn is_partner(kind: u32, number: u32) -> bool
-    ensures { result ≡ is_partner kind number }
+// Whether the partner can be filed under this number.
+pub(crate) fn is_partner(partner: Partner, number: u32) -> bool
+    ensures { result ≡ is_partner (partner_code partner) number }
 {
-    if kind == 1 {
-        number == 0
-    } else {
-        is_number(number)
+    match partner {
+        Partner::Exchange => number == 0,
+        Partner::Outside(_) | Partner::Contract(_) => is_number(number),
     }
 }

@@ -1,26 +1,34 @@
 // How lines and shares are made from their key, and amended under it.
-ghost use Rattle.book.specs.Filing.{new_share, reshared, new_line, replanned, reagreed};
+ghost use Rattle.std.specs.Prelude.{◌≡◌};
+ghost use Rattle.book.specs.Figures.{kwh_of};
+ghost use Rattle.book.specs.Filing.{new_share, reshared, new_line, refigured};
 
 use crate::keys::{LineKey, ShareKey};
 use tables::filing::Row;
 use terms::records::{Line, Share};
 
 // What a share call sets.
-#[derive(Clone, Copy)]
+#[derive(Clone, Copy, PartialEq, Eq, Debug)]
 pub(crate) struct Shared {
     pub(crate) rank: u32,
     pub(crate) kwh: u32,
 }
 
-// What a line call sets, and what a result call sets.
-#[derive(Clone, Copy)]
-pub(crate) struct Planned {
-    pub(crate) kwh: u32,
+// What a line call sets, and what a result call sets, in kWh.
+#[derive(Clone, Copy, PartialEq, Eq, Debug)]
+pub(crate) enum Figure {
+    Planned(u32),
+    Agreed(u32),
 }
 
-#[derive(Clone, Copy)]
-pub(crate) struct Agreed {
-    pub(crate) kwh: u32,
+impl Figure {
+    pub(crate) fn kwh(self) -> u32
+        ensures { result ≡ kwh_of self }
+    {
+        match self {
+            Figure::Planned(kwh) | Figure::Agreed(kwh) => kwh,
+        }
+    }
 }
 
 impl Row<ShareKey, Shared> for Share {
@@ -44,44 +52,27 @@ impl Row<ShareKey, Shared> for Share {
     }
 }
 
-impl Row<LineKey, Planned> for Line {
-    ghost made = { λ key v. new_line key v.kwh 0 };
+impl Row<LineKey, Figure> for Line {
+    ghost made = { λ key figure. refigured figure (new_line key 0 0) };
 
-    ghost amended = { λ v l. replanned v.kwh l };
+    ghost amended = { refigured };
 
-    fn make(key: LineKey, value: Planned) -> Line {
-        Line {
-            contract: key.contract,
-            direction: key.direction,
-            partner: key.partner,
-            planned: value.kwh,
-            agreed: 0,
-        }
-    }
-
-    fn amend(mut self, value: Planned) -> Line {
-        self.planned = value.kwh;
-        self
-    }
-}
-
-impl Row<LineKey, Agreed> for Line {
-    ghost made = { λ key v. new_line key 0 v.kwh };
-
-    ghost amended = { λ v l. reagreed v.kwh l };
-
-    fn make(key: LineKey, value: Agreed) -> Line {
-        Line {
+    fn make(key: LineKey, figure: Figure) -> Line {
+        let line = Line {
             contract: key.contract,
             direction: key.direction,
             partner: key.partner,
             planned: 0,
-            agreed: value.kwh,
-        }
+            agreed: 0,
+        };
+        line.amend(figure)
     }
 
-    fn amend(mut self, value: Agreed) -> Line {
-        self.agreed = value.kwh;
+    fn amend(mut self, figure: Figure) -> Line {
+        match figure {
+            Figure::Planned(kwh) => self.planned = kwh,
+            Figure::Agreed(kwh) => self.agreed = kwh,
+        }
         self
     }
 }

@@ -1,151 +1,58 @@
-// Lines and results, and the writing of lines and shares under their keys.
-ghost use Rattle.std.specs.Prelude.{◌≡◌, false};
-ghost use Rattle.tables.specs.Apart.{has};
-ghost use Rattle.book.specs.Filing.{no_share_room, share_filed, no_line_room, line_planned, line_agreed, line_key, result_key, key_refusal, line_refusal, result_refusal, line_filed, result_filed};
-ghost use Rattle.book.specs.Judging.{answer, after};
-ghost use Rattle.book.specs.Looking.{outranks};
-ghost use Rattle.book.specs.View.{filed};
+// Lines and results: the planned and the agreed kWh of a line.
+ghost use Rattle.book.specs.Filing.{key_for, refusal_at, set_at, line_refusal, result_refusal, line_filed, result_filed};
+ghost use Rattle.book.specs.Judging.{Judges};
+ghost use Rattle.book.specs.Figures.{kwh_of};
 
 use crate::filings::Filings;
-use crate::keys::{LineKey, Outranking, ShareKey};
+use crate::keys::{LineCodes, LineKey};
 use crate::ranges::{is_figure, is_number, is_partner};
-use crate::rows::{Agreed, Planned, Shared};
+use crate::rows::Figure;
 use tables::filing::file_row;
-use tables::keys::any_fits;
-use terms::codes::{Coded, Direction};
 use terms::partner::Partner;
 use terms::refusal::Refusal;
 
-// A partner of this kind is a contract.
-const CONTRACT: u32 = 3;
-
-// The key of a line, where direction and partner have the values of one.
-fn line_key(contract: u32, direction: u32, kind: u32, number: u32) -> Option<LineKey>
-    ensures { result ≡ line_key contract direction kind number }
-{
-    let Some(direction) = Direction::from_code(direction) else {
-        return None;
-    };
-    let Some(partner) = Partner::from_codes(kind, number) else {
-        return None;
-    };
-    Some(LineKey {
-        contract,
-        direction,
-        partner,
-    })
-}
-
-// The key of a result: no contract can be its partner.
-fn result_key(contract: u32, direction: u32, kind: u32, number: u32) -> Option<LineKey>
-    ensures { result ≡ result_key contract direction kind number }
-{
-    if kind == CONTRACT {
-        None
-    } else {
-        line_key(contract, direction, kind, number)
-    }
-}
-
 impl Filings {
-    // Whether another share at the plant has this rank.
-    pub(crate) fn has_outranking(&self, key: ShareKey, rank: u32) -> bool
-        ensures { result ≡ has (outranks key rank) (filed self.now).shares }
+    // A line or a result: its codes, and the planned or the agreed kWh.
+    fn file_figure(&mut self, codes: LineCodes, figure: Figure) -> Result<(), Refusal>
+        ensures { Judges (refusal_at self.old codes (kwh_of figure) (key_for figure codes)) self.old (set_at self.old figure (key_for figure codes)) self.new result }
     {
-        any_fits(self.shares.as_slice(), Outranking { key, rank })
-    }
-
-    // Files a share that finds room.
-    pub(crate) fn put_share(&mut self, key: ShareKey, rank: u32, kwh: u32)
-        requires { no_share_room (filed self.old) key ≡ false }
-        ensures { filed self.new ≡ share_filed (filed self.old) key rank kwh }
-    {
-        file_row(&mut self.shares, key, Shared { rank, kwh });
-    }
-
-    // Sets the planned kWh of a line that finds room.
-    fn plan_line(&mut self, key: LineKey, kwh: u32)
-        requires { no_line_room (filed self.old) key ≡ false }
-        ensures { filed self.new ≡ line_planned (filed self.old) key kwh }
-    {
-        file_row(&mut self.lines, key, Planned { kwh });
-    }
-
-    // Sets the agreed kWh of a line that finds room.
-    fn agree_line(&mut self, key: LineKey, kwh: u32)
-        requires { no_line_room (filed self.old) key ≡ false }
-        ensures { filed self.new ≡ line_agreed (filed self.old) key kwh }
-    {
-        file_row(&mut self.lines, key, Agreed { kwh });
-    }
-
-    // Judges a line by its key.
-    fn judge_line(&self, key: LineKey, kind: u32, number: u32, kwh: u32) -> Result<(), Refusal>
-        ensures { result ≡ answer (key_refusal (filed self.now) kind number kwh key) tt }
-    {
-        if !(is_number(key.contract) & is_partner(kind, number)) {
+        let key = LineKey::try_from(codes)?;
+        if matches!(
+            (figure, key.partner),
+            (Figure::Agreed(_), Partner::Contract(_))
+        ) {
+            return Err(Refusal::UnknownCode);
+        }
+        if !(is_number(key.contract) && is_partner(key.partner, codes.number)) {
             return Err(Refusal::NumberOutOfRange);
         }
-        if !is_figure(kwh) {
+        if !is_figure(figure.kwh()) {
             return Err(Refusal::FigureOutOfRange);
         }
         if !self.has_contract(key.contract) {
             return Err(Refusal::UnknownRecord);
         }
-        if (kind == CONTRACT) & (number == key.contract) {
+        if key.partner == Partner::Contract(key.contract) {
             return Err(Refusal::TradeWithItself);
         }
         if self.lacks_line_room(key) {
             return Err(Refusal::Full);
         }
+        file_row(&mut self.lines, key, figure);
         Ok(())
     }
 
     // A line: a contract, a direction, a partner and the planned kWh.
-    pub(crate) fn file_line(
-        &mut self,
-        contract: u32,
-        direction: u32,
-        kind: u32,
-        number: u32,
-        kwh: u32,
-    ) -> Result<(), Refusal>
-        ensures told { result ≡ answer (line_refusal (filed self.old) contract direction kind number kwh) tt }
-        ensures left { filed self.new ≡ after (line_refusal (filed self.old) contract direction kind number kwh) (filed self.old) (line_filed (filed self.old) contract direction kind number kwh) }
+    pub(crate) fn file_line(&mut self, codes: LineCodes, kwh: u32) -> Result<(), Refusal>
+        ensures { Judges (line_refusal self.old codes kwh) self.old (line_filed self.old codes kwh) self.new result }
     {
-        let Some(key) = line_key(contract, direction, kind, number) else {
-            return Err(Refusal::UnknownCode);
-        };
-        match self.judge_line(key, kind, number, kwh) {
-            Ok(()) => {
-                self.plan_line(key, kwh);
-                Ok(())
-            }
-            Err(refusal) => Err(refusal),
-        }
+        self.file_figure(codes, Figure::Planned(kwh))
     }
 
     // A result: a contract, a direction, the exchange or an outside party, and the agreed kWh.
-    pub(crate) fn file_result(
-        &mut self,
-        contract: u32,
-        direction: u32,
-        kind: u32,
-        number: u32,
-        kwh: u32,
-    ) -> Result<(), Refusal>
-        ensures told { result ≡ answer (result_refusal (filed self.old) contract direction kind number kwh) tt }
-        ensures left { filed self.new ≡ after (result_refusal (filed self.old) contract direction kind number kwh) (filed self.old) (result_filed (filed self.old) contract direction kind number kwh) }
+    pub(crate) fn file_result(&mut self, codes: LineCodes, kwh: u32) -> Result<(), Refusal>
+        ensures { Judges (result_refusal self.old codes kwh) self.old (result_filed self.old codes kwh) self.new result }
     {
-        let Some(key) = result_key(contract, direction, kind, number) else {
-            return Err(Refusal::UnknownCode);
-        };
-        match self.judge_line(key, kind, number, kwh) {
-            Ok(()) => {
-                self.agree_line(key, kwh);
-                Ok(())
-            }
-            Err(refusal) => Err(refusal),
-        }
+        self.file_figure(codes, Figure::Agreed(kwh))
     }
 }
