@@ -11,6 +11,7 @@ use Rattle.terms.specs.declared.records.GroupSort.TheVariants.{Generation, Curta
 use Rattle.terms.specs.declared.records.Share.{Share}
 use Rattle.terms.specs.Plans.{plan_in, plan_of, claim_in}
 use Rattle.sharing.proofs.Levelling.{claimed-within}
+use Rattle.planning.specs.declared.holdings.Holdings.{Holdings}
 use Rattle.planning.specs.Plans.{Limits, group_claims}
 
 pub apart-small : (a b m : ℕ) → a ≤ m → b ≤ m → nat_abs (pos a -ℤ pos b) ≤ m
@@ -45,3 +46,7 @@ claims-light c gs ss l =
       shares-light ss l.few_shares l.planned,
       l.few_groups,
     )
+
+-- groups and shares that are held keep the limits of a book
+pub limits_of : (h : Holdings) → Limits h.groups.now h.shares.now
+limits_of h = record { few_groups = h.few_groups; few_shares = h.few_shares; apart = h.apart; plans = h.plans; planned = h.planned }

@@ -11,7 +11,8 @@ use Rattle.division.specs.Signed.{signed_parts}
 use Rattle.sharing.specs.Levels.{Apart}
 use Rattle.sharing.proofs.Placing.{figures-same}
 use Rattle.planning.specs.Plans.{PlanCorrected, group_claims, share_claims, plans_of_groups, plans_of_shares}
-use Rattle.planning.specs.All.{own_of, PlansCorrected}
+use Rattle.planning.specs.All.{PlansCorrected}
+use Rattle.trades.specs.Trades.{net_of}
 
 -- two rows read at one place are one row
 pub one-read : {T : Type 0} (xs : List T) (n : ℕ) (x y : T) → n < length xs → x ≡ get_or xs n x → y ≡ get_or xs n y → x ≡ y
@@ -46,7 +47,7 @@ module _ (first second : ℕ → List ℕ → List ℕ) (contracts : List Contra
   -- what correction has done when the first n contracts are done
   pub record Done (n : ℕ) (gb ga sb sa : List ℤ) : Type 0 where
     pub group_parts : (j : ℕ) → j < n → (c : Contract) → c ≡ get_or contracts j c →
-        plans_of_groups c.number groups ga ≡ signed_parts (own_of c.number lines figures) (first (nat_abs (own_of c.number lines figures)) (group_claims c.number groups shares))
+        plans_of_groups c.number groups ga ≡ signed_parts (net_of c.number lines figures) (first (nat_abs (net_of c.number lines figures)) (group_claims c.number groups shares))
     pub share_parts : (j : ℕ) → j < n → (c : Contract) → c ≡ get_or contracts j c → (k : ℕ) (g : Group) → k < length groups → g ≡ get_or groups k g → g.contract ≡ c.number →
         plans_of_shares g.number shares sa ≡ signed_parts (get_or ga k (pos 0)) (second (nat_abs (get_or ga k (pos 0))) (share_claims g.number shares))
     pub other_groups : (k : ℕ) (g : Group) → k < length groups → g ≡ get_or groups k g → ((j : ℕ) → j < n → (c : Contract) → c ≡ get_or contracts j c → c.number ≡ g.contract → ⊥) → get_or ga k (pos 0) ≡ get_or gb k (pos 0)
@@ -71,7 +72,7 @@ module _ (first second : ℕ → List ℕ → List ℕ) (contracts : List Contra
   -- one contract more
   module _ (apart-contracts : Apart (λ (c : Contract). c.number) contracts) (apart-groups : Apart (λ (g : Group). g.number) groups) (n : ℕ) (x : Contract) (within : n < length contracts) (read : x ≡ get_or contracts n x)
       (gb ga sb sa ga' sa' : List ℤ) (lg : length ga ≡ length groups) (lg' : length ga' ≡ length groups) (ls : length sa ≡ length shares) (ls' : length sa' ≡ length shares)
-      (step : PlanCorrected first second x.number (own_of x.number lines figures) groups shares ga ga' sa sa') where
+      (step : PlanCorrected first second x.number (net_of x.number lines figures) groups shares ga ga' sa sa') where
     -- a contract before it has another number
     other : (j : ℕ) → j < n → (c : Contract) → c ≡ get_or contracts j c → c.number ≡ x.number → ⊥
     other j l c e = apart-at (λ (y : Contract). y.number) contracts apart-contracts j n c x l within e read
@@ -91,7 +92,7 @@ module _ (first second : ℕ → List ℕ → List ℕ) (contracts : List Contra
           (λ j l c e. groups_stay c.number (other j l c e) ∙ d.group_parts j l c e)
           (λ c e.
           let same : x ≡ c = one-read contracts n x c within read e in
-          subst (λ (y : Contract). plans_of_groups y.number groups ga' ≡ signed_parts (own_of y.number lines figures) (first (nat_abs (own_of y.number lines figures)) (group_claims y.number groups shares))) same step.heads_shared.parts);
+          subst (λ (y : Contract). plans_of_groups y.number groups ga' ≡ signed_parts (net_of y.number lines figures) (first (nat_abs (net_of y.number lines figures)) (group_claims y.number groups shares))) same step.heads_shared.parts);
       share_parts = below_more _ n
           (λ j l c e k g h r o.
           let ne : g.contract ≡ x.number → ⊥ = λ z. other j l c e (sym o ∙ z) in

@@ -21,7 +21,9 @@ use Rattle.sharing.proofs.Owning.{owners_sum}
 use Rattle.sharing.proofs.Placing.{own-figure, parts-light}
 use Rattle.planning.specs.Plans.{plans_of_groups, plans_of_shares}
 use Rattle.tables.specs.Apart.{Known}
-use Rattle.planning.specs.All.{Trading, own_of, PlansCorrected}
+use Rattle.planning.specs.All.{PlansCorrected}
+use Rattle.trades.specs.Trades.{Trading}
+use Rattle.trades.specs.Trades.{net_of}
 use Rattle.planning.specs.Laws.{PlansStayWithin}
 use Rattle.planning.proofs.Deemed.{apart-small}
 
@@ -49,7 +51,7 @@ owner_of {O} {T} numbered owned owners rows known k r h e =
 module _ (first second : ℕ → List ℕ → List ℕ) (keeps_first : Keeps first) (keeps_second : Keeps second) (contracts : List Contract) (lines : List Line) (figures : List ℕ) (groups : List Group) (shares : List Share) (gb ga sb sa : List ℤ)
     (trading : Trading lines figures) (known : Known (λ (c : Contract). c.number) (λ (g : Group). g.contract) contracts groups) (lg : length ga ≡ length groups)
     (p : PlansCorrected first second contracts lines figures groups shares gb ga sb sa) where
-  own-small : (c : ℕ) → nat_abs (own_of c lines figures) ≤ 128000000
+  own-small : (c : ℕ) → nat_abs (net_of c lines figures) ≤ 128000000
   own-small c =
       apart-small (traded Sale c lines figures) (traded Purchase c lines figures) 128000000 (traded-light Sale c lines figures (trading.allowed c) trading.small) (traded-light Purchase c lines figures (trading.allowed c) trading.small)
 
@@ -58,7 +60,7 @@ module _ (first second : ℕ → List ℕ → List ℕ) (keeps_first : Keeps fir
   contract_light j c h e =
       let claimed : Group → ℕ = claim_of (λ (g : Group). claim_in g.sort) (λ (g : Group). g.number) (λ (s : Share). s.group) (λ (s : Share). s.planned) shares in
       subst (λ (zs : List ℤ). sum_by nat_abs zs ≤ 128000000) (sym (p.group_parts j c h e))
-      (bounded _ _ _ (parts-light first keeps_first (λ (g : Group). g.contract) claimed c.number (own_of c.number lines figures) groups) (own-small c.number))
+      (bounded _ _ _ (parts-light first keeps_first (λ (g : Group). g.contract) claimed c.number (net_of c.number lines figures) groups) (own-small c.number))
 
   module _ (k : ℕ) (g : Group) (h : k < length groups) (e : g ≡ get_or groups k g) where
     contract_of : Standing (λ (c : Contract). eqb g.contract c.number) contracts

@@ -6,26 +6,16 @@ use Rattle.terms.specs.declared.records.Contract.{Contract}
 use Rattle.terms.specs.declared.records.Group.{Group}
 use Rattle.terms.specs.declared.records.Line.{Line}
 use Rattle.terms.specs.declared.records.Share.{Share}
-use Rattle.trades.specs.Trades.{traded, lines_of}
+use Rattle.trades.specs.Trades.{net_of}
 use Rattle.division.specs.Signed.{signed_parts}
 use Rattle.planning.specs.Plans.{group_claims, share_claims, plans_of_groups, plans_of_shares}
-
--- The limits that the lines of a book keep: a figure of at most 2,000,000 kWh for each line, and at most 64 lines a contract.
-pub record Trading (lines : List Line) (figures : List ℕ) : Type 0 where
-  pub room : length figures ≡ length lines
-  pub small : AllByRecursion (λ f. f ≤ 2000000) figures
-  pub allowed : (contract : ℕ) → lines_of contract lines ≤ 64
-
--- A contract's corrected sales less purchases.
-abbrev pub own_of : ℕ → List Line → List ℕ → ℤ
-own_of contract lines figures = pos (traded Sale contract lines figures) -ℤ pos (traded Purchase contract lines figures)
 
 -- What correction leaves at groups and shares, contract by contract.
 pub record PlansCorrected (first second : ℕ → List ℕ → List ℕ) (contracts : List Contract) (lines : List Line) (figures : List ℕ) (groups : List Group) (shares : List Share)
     (groups_before groups_after shares_before shares_after : List ℤ) : Type 0 where
   -- the figures of a contract's groups are the first rule's parts of its sales less purchases, in listed order
   pub group_parts : (j : ℕ) (c : Contract) → j < length contracts → c ≡ slice_index_or contracts j c →
-      plans_of_groups c.number groups groups_after ≡ signed_parts (own_of c.number lines figures) (first (unsigned_abs (own_of c.number lines figures)) (group_claims c.number groups shares))
+      plans_of_groups c.number groups groups_after ≡ signed_parts (net_of c.number lines figures) (first (unsigned_abs (net_of c.number lines figures)) (group_claims c.number groups shares))
   -- the plans of the shares of each of its groups are the second rule's parts of the group's figure, in listed order
   pub share_parts : (j : ℕ) (c : Contract) → j < length contracts → c ≡ slice_index_or contracts j c → (k : ℕ) (g : Group) → k < length groups → g ≡ slice_index_or groups k g → g.contract ≡ c.number →
       plans_of_shares g.number shares shares_after ≡ signed_parts (slice_index_or groups_after k (pos 0)) (second (unsigned_abs (slice_index_or groups_after k (pos 0))) (share_claims g.number shares))

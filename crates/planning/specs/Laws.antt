@@ -9,14 +9,16 @@ use Rattle.division.specs.Terms.{Keeps}
 use Rattle.tables.specs.Apart.{Known}
 use Rattle.sharing.specs.Owners.{count_of, added_up}
 use Rattle.planning.specs.Plans.{plans_of_groups, plans_of_shares}
-use Rattle.planning.specs.All.{Trading, own_of, PlansCorrected}
+use Rattle.planning.specs.All.{PlansCorrected}
+use Rattle.trades.specs.Trades.{Trading}
+use Rattle.trades.specs.Trades.{net_of}
 
 -- The parts of a contract's groups come to its corrected sales less purchases, where it has a group.
 abbrev pub GroupsAddUp : Type 0
 GroupsAddUp = (first second : ℕ → List ℕ → List ℕ) → Keeps first → (contracts : List Contract) (lines : List Line) (figures : List ℕ) (groups : List Group) (shares : List Share) (gb ga sb sa : List ℤ) →
     PlansCorrected first second contracts lines figures groups shares gb ga sb sa →
     (j : ℕ) (c : Contract) → j < length contracts → c ≡ slice_index_or contracts j c → 1 ≤ count_of (λ (g : Group). g.contract) c.number groups →
-    added_up (plans_of_groups c.number groups ga) ≡ own_of c.number lines figures
+    added_up (plans_of_groups c.number groups ga) ≡ net_of c.number lines figures
 
 -- The corrected plans of the shares of a contract's group come to the group's part, where it has a share.
 abbrev pub SharesAddUp : Type 0

@@ -2,6 +2,7 @@
 #![tactic(auto)]
 
 pub mod all;
+pub mod holdings;
 mod laws;
 pub mod plan;
 pub mod text;

@@ -1,37 +1,36 @@
 // The correction of one generation contract's plan.
 ghost use Rattle.std.specs.Prelude.{◌≡◌, ◌≤◌, length, pos, ◌-ℤ◌, unsigned_abs};
 ghost use Rattle.terms.specs.Plans.{plan_of};
-ghost use Rattle.planning.specs.Plans.{Limits, PlanCorrected, group_plan};
+ghost use Rattle.planning.specs.Plans.{PlanCorrected, group_plan};
 
+use crate::holdings::Holdings;
 use division::DivisionRule;
 use sharing::levels::share_out_levels;
 use terms::balance::Balance;
-use terms::records::{Group, GroupSort, Share};
+use terms::records::{Group, GroupSort};
 
 // The deemed plan, sales less purchases, is divided among the contract's groups by the first rule, and each group's part among its shares by the second.
-// Callers are proved to stay inside the limits of a book, so that no division is refused.
+// Callers are proved to have a plan for each group and share, and trades inside the limits of a book, so that no division is refused.
 pub fn correct_plan<A: DivisionRule, B: DivisionRule>(
     first: &A,
     second: &B,
     contract: u32,
     balance: &Balance,
-    groups: &[Group],
-    shares: &[Share],
+    holdings: &Holdings,
     group_plans: &mut [i64],
     share_plans: &mut [i64],
 )
-    requires limits { Limits groups.now shares.now }
     requires traded { (balance.now.sold ≤ 128000000) × (balance.now.bought ≤ 128000000) }
-    requires groups { length group_plans.old ≡ length groups.now }
-    requires shares { length share_plans.old ≡ length shares.now }
+    requires groups { length group_plans.old ≡ length holdings.now.groups.now }
+    requires shares { length share_plans.old ≡ length holdings.now.shares.now }
     ensures { PlanCorrected (A.DivisionRule.parts first.now) (B.DivisionRule.parts second.now) contract (pos balance.now.sold -ℤ pos balance.now.bought)
-        groups.now shares.now group_plans.old group_plans.new share_plans.old share_plans.new }
+        holdings.now.groups.now holdings.now.shares.now group_plans.old group_plans.new share_plans.old share_plans.new }
 {
     share_out_levels(
         first,
         second,
-        groups,
-        shares,
+        holdings.groups,
+        holdings.shares,
         contract,
         balance.own(),
         group_plans,

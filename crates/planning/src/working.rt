@@ -5,9 +5,10 @@ ghost use Rattle.tables.specs.Listed.{listed};
 ghost use Rattle.division.specs.Rules.{pro_rata};
 ghost use Rattle.division.specs.Signed.{signed_parts};
 ghost use Rattle.sharing.specs.Owners.{count_of, figures_of};
-ghost use Rattle.planning.specs.Plans.{Limits, group_claims, share_claims, plans_of_groups, plans_of_shares, groups_of, plants_of};
+ghost use Rattle.planning.specs.Plans.{group_claims, share_claims, plans_of_groups, plans_of_shares, groups_of, plants_of};
 ghost use Rattle.planning.specs.Workings.{working_of, workings, names_of, Explains};
 
+use crate::holdings::Holdings;
 use division::MOST_CLAIMS;
 use division::pro_rata::rounded_down;
 use division::signed::with_sign;
@@ -127,19 +128,11 @@ fn list_lines<T: Claimant>(
         extra: false,
         part: 0,
     });
-    let mut n = 0;
-    for i in 0..rows.len() {
-        let row = &rows[i];
+    let mut left = claims.iter();
+    for (row, figure) in rows.iter().zip(figures) {
         if row.owner() == owner {
-            lines.push(work_out_part(
-                whole,
-                all,
-                claims.len(),
-                row.known_by(),
-                claims[n],
-                figures[i],
-            ));
-            n += 1;
+            let claim = *left.next().unwrap();
+            lines.push(work_out_part(whole, all, claims.len(), row.known_by(), claim, *figure));
         }
     }
     lines
@@ -169,21 +162,25 @@ fn work_out<T: Claimant>(
 
 // Works out how a contract's deemed plan was divided among its groups. Callers are proved to hand over plans that were divided so.
 pub fn work_out_groups(
-    groups: &[Group],
-    shares: &[Share],
+    holdings: &Holdings,
     contract: u32,
     deemed: i64,
     group_plans: &[i64],
 ) -> Worked
-    requires limits { Limits groups.now shares.now }
-    requires room { length group_plans.now ≡ length groups.now }
+    requires room { length group_plans.now ≡ length holdings.now.groups.now }
     requires small { unsigned_abs deemed ≤ 128000000 }
-    requires divided { plans_of_groups contract groups.now group_plans.now ≡ signed_parts deemed (pro_rata (unsigned_abs deemed) (group_claims contract groups.now shares.now)) }
-    ensures named { map (λ (w : Working). w.number) (listed result.lines) ≡ groups_of contract groups.now }
-    ensures explained { Explains deemed (group_claims contract groups.now shares.now) (listed result.lines) result.together }
+    requires divided { plans_of_groups contract holdings.now.groups.now group_plans.now ≡ signed_parts deemed (pro_rata (unsigned_abs deemed) (group_claims contract holdings.now.groups.now holdings.now.shares.now)) }
+    ensures named { map (λ (w : Working). w.number) (listed result.lines) ≡ groups_of contract holdings.now.groups.now }
+    ensures explained { Explains deemed (group_claims contract holdings.now.groups.now holdings.now.shares.now) (listed result.lines) result.together }
 {
-    let claims = gather_heads(groups, shares, contract);
-    work_out(groups, contract, deemed, claims.as_slice(), group_plans)
+    let claims = gather_heads(holdings.groups, holdings.shares, contract);
+    work_out(
+        holdings.groups,
+        contract,
+        deemed,
+        claims.as_slice(),
+        group_plans,
+    )
 }
 
 // Works out how a group's plan was divided among its shares. Callers are proved to hand over plans that were divided so.

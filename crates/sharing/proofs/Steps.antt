@@ -47,6 +47,13 @@ module _ {T : Type 0} (owned : T → ℕ) (owner : ℕ) where
         ∙ sym (ap (λ q. take i xs ++ q) step)
         ∙ inv
 
+    -- the same where the parts still to give are p and then qs
+    pub scatter_next : (ps qs xs all : List ℤ) (p v : ℤ) → i < length xs → owned x ≡ owner → ps ≡ p ∷ qs → v ≡ p →
+        take i xs ++ placed owned owner (drop i rows) ps (drop i xs) ≡ all →
+        take (i + 1) (set xs i v) ++ placed owned owner (drop (i + 1) rows) qs (drop (i + 1) (set xs i v)) ≡ all
+    scatter_next ps qs xs all p v k mine e is inv =
+        scatter_yes 0 (p ∷ qs) xs all v k (omega arith) mine is (ap (λ q. take i xs ++ placed owned owner (drop i rows) q (drop i xs)) (sym e) ∙ inv)
+
     pub scatter_no : (ps xs all : List ℤ) → i < length xs → (owned x ≡ owner → ⊥) →
         take i xs ++ placed owned owner (drop i rows) ps (drop i xs) ≡ all →
         take (i + 1) xs ++ placed owned owner (drop (i + 1) rows) ps (drop (i + 1) xs) ≡ all

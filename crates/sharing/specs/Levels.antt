@@ -2,6 +2,8 @@
 -- Heads have numbers, and a member belongs to the head whose number it names.
 use Rattle.std.specs.Prelude.{◌≡◌, ℕ, ◌<◌, ◌≤◌, cond, List, [], ◌∷◌, length, ℤ, pos, sum, ◌==◌, ◌≢◌, slice_index_or, unsigned_abs}
 use Rattle.std.specs.List.{AllByRecursion}
+use Rattle.std.proofs.Props.{props}
+use mathlib.Core.HLevel.{Unit-prop, ×_prop}
 use Rattle.tables.specs.Carried.{claims_of}
 use Rattle.sharing.specs.Owners.{count_of, figures_of, added_up, parts_for, shared, SharedOut}
 
@@ -9,6 +11,11 @@ use Rattle.sharing.specs.Owners.{count_of, figures_of, added_up, parts_for, shar
 abbrev pub Apart : {H : Type 0} → (H → ℕ) → List H → Type 0
 Apart numbered [] = Unit {0}
 Apart numbered (h ∷ hs) = AllByRecursion (λ k. numbered k ≢ numbered h) hs × Apart numbered hs
+
+-- It has one proof at most, so that a value may keep it.
+pub Apart-prop : {H : Type 0} (numbered : H → ℕ) (hs : List H) → IsProp (Apart numbered hs)
+Apart-prop numbered [] = Unit-prop
+Apart-prop numbered (h ∷ hs) = ×_prop (hlevel props) (Apart-prop numbered hs)
 
 -- What a head claims, from what its members carry together.
 abbrev pub claim_of : {H M : Type 0} → (H → ℕ → ℕ) → (H → ℕ) → (M → ℕ) → (M → ℕ) → List M → H → ℕ

@@ -1,5 +1,5 @@
 -- Rows that belong to owners, and a whole shared out among the rows of one owner.
-use Rattle.std.specs.Prelude.{◌≡◌, ℕ, ◌+◌, ◌<◌, ◌≤◌, cond, List, [], ◌∷◌, length, drop, ℤ, pos, ◌+ℤ◌, nat_eq, ◌==◌, ◌≢◌, slice_index_or, unsigned_abs}
+use Rattle.std.specs.Prelude.{◌≡◌, ℕ, ◌<◌, ◌≤◌, cond, List, [], ◌∷◌, length, drop, ℤ, pos, nat_eq, ◌==◌, ◌≢◌, slice_index_or, unsigned_abs}
 use Rattle.tables.specs.Carried.{claims_of}
 use Rattle.tables.specs.Figures.{added_by, figures_if}
 use Rattle.tables.specs.Keys.{count_if}

@@ -13,13 +13,13 @@ loop-contract-preserved g c =
     let x = get_or cs n blank in
     let lg = c.loop-contract.auto.group_parts ∙ c.requires.groups in
     let ls = c.loop-contract.auto.share_plans ∙ c.requires.shares in
-    done_more (g.A.DivisionRule.parts c.args.first.now) (g.B.DivisionRule.parts c.args.second.now) cs c.args.lines.now c.args.figures.now c.args.groups.now c.args.shares.now
-    c.requires.apart c.requires.limits.apart n x c.loop-contract-test.true (get_or_default cs n blank x c.loop-contract-test.true)
+    done_more (g.A.DivisionRule.parts c.args.first.now) (g.B.DivisionRule.parts c.args.second.now) cs c.args.trades.now.lines.now c.args.trades.now.figures.now c.args.holdings.now.groups.now c.args.holdings.now.shares.now
+    c.requires.apart c.args.holdings.now.apart n x c.loop-contract-test.true (get_or_default cs n blank x c.loop-contract-test.true)
     c.args.group_parts.now c.loop-contract.group_parts c.args.share_plans.now c.loop-contract.share_plans c.correct_contract.new.group_parts c.correct_contract.new.share_plans
     lg (c.correct_contract.auto.group_parts ∙ lg) ls (c.correct_contract.auto.share_plans ∙ ls)
     c.correct_contract.ensures c.loop-contract.invariant
 
 pub returns : goal.returns
 returns g c =
-    done_all (g.A.DivisionRule.parts c.args.first.now) (g.B.DivisionRule.parts c.args.second.now) c.args.contracts.now c.args.lines.now c.args.figures.now c.args.groups.now c.args.shares.now
+    done_all (g.A.DivisionRule.parts c.args.first.now) (g.B.DivisionRule.parts c.args.second.now) c.args.contracts.now c.args.trades.now.lines.now c.args.trades.now.figures.now c.args.holdings.now.groups.now c.args.holdings.now.shares.now
     c.loop-contract.contract-index c.args.group_parts.now c.loop-contract.group_parts c.args.share_plans.now c.loop-contract.share_plans (omega arith) c.loop-contract.invariant

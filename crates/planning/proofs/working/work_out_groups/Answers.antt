@@ -6,20 +6,20 @@ use Rattle.division.proofs.Signs.{back}
 use Rattle.sharing.specs.Levels.{claim_of}
 use Rattle.sharing.proofs.Steps.{length-claims}
 use Rattle.planning.specs.Plans.{group_claims, plans_of_groups}
-use Rattle.planning.proofs.Deemed.{shares-light, claims-light}
+use Rattle.planning.proofs.Deemed.{shares-light, claims-light, limits_of}
 use Rattle.planning.proofs.Explaining.{divided_as}
 use Rattle.planning.proofs.working.work_out_groups.Goals as goal
 
 pub gather_heads-claims-requires : goal.gather_heads-claims-requires
 gather_heads-claims-requires c =
-    let l = c.requires.limits in
-    record { few = omega (arith, l.few_groups); light = omega (arith, shares-light c.args.shares.now l.few_shares l.planned) }
+    let l = limits_of c.args.holdings.now in
+    record { few = omega (arith, l.few_groups); light = omega (arith, shares-light c.args.holdings.now.shares.now l.few_shares l.planned) }
 
 pub work_out-requires : goal.work_out-requires
 work_out-requires c =
-    let l = c.requires.limits in
-    let groups = c.args.groups.now in
-    let shares = c.args.shares.now in
+    let l = limits_of c.args.holdings.now in
+    let groups = c.args.holdings.now.groups.now in
+    let shares = c.args.holdings.now.shares.now in
     let listed = c.as_slice.ensures ∙ c.gather_heads-claims.ensures in
     let whole = back c.args.deemed c.ranges.deemed in
     record {

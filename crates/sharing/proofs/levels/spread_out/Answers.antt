@@ -1,4 +1,4 @@
-use Rattle.std.proofs.Common.{◌≡◌, ◌+◌, ◌<◌, ◌≤◌, length, get_or, drop, pos, nat_abs, sym, ap, subst, ◌∙◌, arith}
+use Rattle.std.proofs.Common.{◌≡◌, ◌≤◌, length, get_or, drop, pos, nat_abs, sym, ap, subst, ◌∙◌, arith}
 use Rattle.std.proofs.lemmas.List.{length_push}
 use Rattle.std.proofs.lemmas.Slice.Zip.{zip_turn, zip_end}
 use Rattle.sharing.specs.Owners.{shared}
@@ -29,13 +29,13 @@ loop-head-preserved-then-owner g c =
     let mine = sym c.owner.ensures ∙ c.if-owner.true in
     let small : nat_abs c.in-Some.figure.now ≤ 128000000 = omega (arith, c.requires.small k x t.0 (t.2 x) mine, ap nat_abs (t.3 (pos 0))) in
     subst (λ n. figures_of_members f g.H.Owned.owned g.H.Head.numbered g.M.Owned.owned g.M.Carries.carried c.args.owner ms (drop n hs) (drop n ps) c.share_out.new.figures
-        ≡ figures_of_members f g.H.Owned.owned g.H.Head.numbered g.M.Owned.owned g.M.Carries.carried c.args.owner ms hs ps c.args.member_figures.now)
+    ≡ figures_of_members f g.H.Owned.owned g.H.Head.numbered g.M.Owned.owned g.M.Carries.carried c.args.owner ms hs ps c.args.member_figures.now)
     (sym (length_push c.loop-head.yielded (c.in-Some.head, c.in-Some.figure)))
     (spread_yes g.H.Owned.owned g.H.Head.numbered g.M.Owned.owned g.M.Carries.carried f c.args.owner ms hs ps k x t.0 (t.2 x) t.1 c.loop-head.member_figures _ _ mine
-        (c.share_out.ensures.value
-        ∙ ap (λ z. shared f g.M.Owned.owned g.M.Carries.carried c.number.result z ms c.loop-head.member_figures) (back-small c.in-Some.figure.now small ∙ t.3 (pos 0))
-        ∙ ap (λ n. shared f g.M.Owned.owned g.M.Carries.carried n (get_or ps k (pos 0)) ms c.loop-head.member_figures) c.number.ensures)
-        c.loop-head.invariant)
+    (c.share_out.ensures.value
+    ∙ ap (λ z. shared f g.M.Owned.owned g.M.Carries.carried c.number.result z ms c.loop-head.member_figures) (back-small c.in-Some.figure.now small ∙ t.3 (pos 0))
+    ∙ ap (λ n. shared f g.M.Owned.owned g.M.Carries.carried n (get_or ps k (pos 0)) ms c.loop-head.member_figures) c.number.ensures)
+    c.loop-head.invariant)
 
 pub loop-head-preserved : goal.loop-head-preserved
 loop-head-preserved g c =
@@ -45,13 +45,13 @@ loop-head-preserved g c =
     let ps = c.args.head_figures.now in
     let t = zip_turn hs ps c.loop-head.yielded _ _ c.next.new.self c.next.result (cc) (cc) c.loop-head.yielded_by _ c.in-Some.is c.next.ensures.steps in
     subst (λ n. figures_of_members f g.H.Owned.owned g.H.Head.numbered g.M.Owned.owned g.M.Carries.carried c.args.owner c.args.members.now (drop n hs) (drop n ps) c.loop-head.member_figures
-        ≡ figures_of_members f g.H.Owned.owned g.H.Head.numbered g.M.Owned.owned g.M.Carries.carried c.args.owner c.args.members.now hs ps c.args.member_figures.now)
+    ≡ figures_of_members f g.H.Owned.owned g.H.Head.numbered g.M.Owned.owned g.M.Carries.carried c.args.owner c.args.members.now hs ps c.args.member_figures.now)
     (sym (length_push c.loop-head.yielded (c.in-Some.head, c.in-Some.figure)))
     (spread_no g.H.Owned.owned g.H.Head.numbered g.M.Owned.owned g.M.Carries.carried f c.args.owner c.args.members.now hs ps k c.in-Some.head.now t.0 (t.2 c.in-Some.head.now) t.1 c.loop-head.member_figures _
-        (λ e. c.if-owner.false (c.owner.ensures ∙ e)) c.loop-head.invariant)
+    (λ e. c.if-owner.false (c.owner.ensures ∙ e)) c.loop-head.invariant)
 
 pub returns : goal.returns
 returns g c =
     let end = zip_end c.args.heads.now c.args.head_figures.now c.loop-head.yielded _ _ c.next.new.self c.next.result (cc) (cc) c.loop-head.yielded_by c.in-None.is c.next.ensures.steps in
     spread_all g.H.Owned.owned g.H.Head.numbered g.M.Owned.owned g.M.Carries.carried (g.B.DivisionRule.parts c.args.second.now) c.args.owner c.args.members.now c.args.heads.now c.args.head_figures.now c.loop-head.member_figures _
-        (length c.loop-head.yielded) (omega (arith, end, c.requires.heads)) c.loop-head.invariant
+    (length c.loop-head.yielded) (omega (arith, end, c.requires.heads)) c.loop-head.invariant
