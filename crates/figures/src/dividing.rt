@@ -1,5 +1,8 @@
 // Divisions by both rules, of wholes from zero up and of signed wholes.
-ghost use Rattle.std.specs.Prelude.{◌≤◌};
+ghost use Rattle.std.specs.Prelude.{ℕ, ◌≤◌, List, Result};
+ghost use Rattle.terms.specs.declared.refusal.Refusal.{Refusal};
+ghost use Rattle.division.specs.Limits.{Divided};
+ghost use Rattle.division.specs.Signed.{DividedSigned};
 
 use crate::draws::{Draws, DrawsRows};
 use crate::rule::Rule;
@@ -85,7 +88,7 @@ impl Division {
     }
 }
 
-// A whole from 0 up to just over the limit, by a number below 16.
+// A whole from 0 up to just over the limit, by a number below 16: docs/FIGURES.md tells the kinds by these numbers, and an enum would only name them to match on them here.
 fn draw_magnitude(draws: &mut Draws, kind: u64) -> u64
     ensures { result ≤ 128000001 }
 {
@@ -98,15 +101,26 @@ fn draw_magnitude(draws: &mut Draws, kind: u64) -> u64
     }
 }
 
-// What a case divides, and how: its parts are numbers like it.
+// What a case divides: its parts are numbers like it.
 pub trait Whole: Copy + fmt::Display + From<u8> {
+    // what a division of the whole by a rule leaves of a buffer
+    ghost divided: { Self → (ℕ → List ℕ → List ℕ) → List ℕ → List Self → List Self → Result (Unit {0}) Refusal → Type 0 };
+
     fn draw(draws: &mut Draws) -> Self;
 
-    fn divide_by(self, rule: Rule, claims: &[u64], into: &mut [Self]) -> Result<(), Refusal>;
+    fn divide_by<R: DivisionRule>(
+        self,
+        rule: &R,
+        claims: &[u64],
+        into: &mut [Self],
+    ) -> Result<(), Refusal>
+        ensures { divided self (R.DivisionRule.parts rule.now) claims.now into.old into.new result };
 }
 
 // A whole from 0 up; one in 16 is the largest number that can be written.
 impl Whole for u64 {
+    ghost divided = { λ whole rule. Divided rule whole };
+
     fn draw(draws: &mut Draws) -> u64 {
         match draws.below(16) {
             2 => u64::MAX,
@@ -114,13 +128,20 @@ impl Whole for u64 {
         }
     }
 
-    fn divide_by(self, rule: Rule, claims: &[u64], into: &mut [u64]) -> Result<(), Refusal> {
+    fn divide_by<R: DivisionRule>(
+        self,
+        rule: &R,
+        claims: &[u64],
+        into: &mut [u64],
+    ) -> Result<(), Refusal> {
         rule.divide(self, claims, into)
     }
 }
 
 // A signed whole, three in four with a minus; one in 16 is the lowest number that can be written.
 impl Whole for i64 {
+    ghost divided = { λ whole rule. DividedSigned rule whole };
+
     fn draw(draws: &mut Draws) -> i64 {
         match draws.below(16) {
             2 => i64::MIN,
@@ -135,8 +156,13 @@ impl Whole for i64 {
         }
     }
 
-    fn divide_by(self, rule: Rule, claims: &[u64], into: &mut [i64]) -> Result<(), Refusal> {
-        divide_signed(&rule, self, claims, into)
+    fn divide_by<R: DivisionRule>(
+        self,
+        rule: &R,
+        claims: &[u64],
+        into: &mut [i64],
+    ) -> Result<(), Refusal> {
+        divide_signed(rule, self, claims, into)
     }
 }
 
@@ -165,7 +191,7 @@ pub fn case<W: Whole>(rt: HostRuntime, case: u64) -> io::Result<()> {
         .claims
         .rows(rt.alloc(), division.count, &mut draws)?;
     let mut buffer = vec![in rt.alloc(); W::from(9); division.room]?;
-    let outcome = whole.divide_by(division.rule, &claims, &mut buffer);
+    let outcome = whole.divide_by(&division.rule, &claims, &mut buffer);
     show_division(rt, case, &division, &whole, &claims)?;
     match outcome {
         Ok(()) => print!(rt; ": parts")?,

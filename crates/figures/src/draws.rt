@@ -81,7 +81,7 @@ pub trait DrawsRows<T: Drop> {
     fn row(&self, place: usize, draws: &mut Draws) -> T
         ensures { fine self.now result };
 
-    // So many rows, drawn in order.
+    // So many rows, drawn in order. As a chain, (0..count).map(..).collect(alloc), it does not prove that they are fine: the closure changes the draws.
     final fn rows(
         &self,
         alloc: Global,

@@ -88,36 +88,25 @@ fn next_contract(contract: u32) -> u32
     11 + (contract - 10) % 3
 }
 
-// Keys between a contract and the next: two opposite pairs.
+// Keys between a contract and the next: two opposite pairs. The kinds are the numbers that docs/FIGURES.md tells them by; an enum would only name them to match on them here.
 fn key_between(contract: u32, kind: u64) -> Key
     requires { homed contract }
 {
     let next = next_contract(contract);
-    match kind {
-        0 => Key {
-            contract,
-            direction: Direction::Sale,
-            partner: Partner::Contract(next),
-        },
-        1 => Key {
-            contract: next,
-            direction: Direction::Purchase,
-            partner: Partner::Contract(contract),
-        },
-        2 => Key {
-            contract,
-            direction: Direction::Purchase,
-            partner: Partner::Contract(next),
-        },
-        _ => Key {
-            contract: next,
-            direction: Direction::Sale,
-            partner: Partner::Contract(contract),
-        },
+    let (contract, direction, partner) = match kind {
+        0 => (contract, Direction::Sale, next),
+        1 => (next, Direction::Purchase, contract),
+        2 => (contract, Direction::Purchase, next),
+        _ => (next, Direction::Sale, contract),
+    };
+    Key {
+        contract,
+        direction,
+        partner: Partner::Contract(partner),
     }
 }
 
-// Keys with the exchange, an outside party and a contract without lines.
+// Keys with the exchange, an outside party and a contract without lines, by the numbers of docs/FIGURES.md too.
 fn key_outward(contract: u32, kind: u64) -> Key
     requires { homed contract }
 {
