@@ -1,10 +1,8 @@
 // Plans on two levels: three contracts, five groups of both sorts and up to ten shares.
-ghost use Rattle.std.specs.Prelude.{◌≡◌, ◌+◌, ◌≤◌, length, unsigned_abs};
+ghost use Rattle.std.specs.Prelude.{◌≡◌, ◌+◌, ◌≤◌};
 ghost use Rattle.std.specs.List.{AllByRecursion};
 ghost use Rattle.terms.specs.Plans.{plan_of};
 ghost use Rattle.sharing.specs.Levels.{Apart};
-ghost use Rattle.planning.specs.All.{Trading};
-ghost use Rattle.planning.specs.Plans.{Limits};
 ghost use Rattle.figures.specs.Rows.{share_fine, homed};
 
 use crate::draws::{Draws, DrawsRows};
@@ -149,17 +147,17 @@ impl DrawsRows<Share> for PlanPattern {
 
 // A group and its plan.
 fn show_group(rt: HostRuntime, group: &Group, plan: i64) -> io::Result<()> {
-    let Group {
-        number,
-        contract,
-        ..
-    } = *group;
     match group.sort {
-        GroupSort::Generation => { print!(rt; "; generation group {number} of {contract}: {plan}") }
+        GroupSort::Generation => {
+            print!(rt;
+                "; generation group {} of {}: {plan}",
+                group.number, group.contract
+            )
+        }
         GroupSort::Curtailment(curtailment) => {
             print!(rt;
-                "; curtailment group {number} of {contract}, filed {}: {plan}",
-                curtailment.plan
+                "; curtailment group {} of {}, filed {}: {plan}",
+                group.number, group.contract, curtailment.plan
             )
         }
     }

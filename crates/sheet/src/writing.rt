@@ -45,11 +45,10 @@ pub(crate) fn put_row(row: SheetRow, into: &mut [u8], at: usize) -> usize
     put_figure(row.imbalance, b"\r\n", into, imbalance)
 }
 
-pub(crate) fn put_rows(rows: &[SheetRow], into: &mut [u8], from: usize) -> usize
-    requires { from + length (rows_text rows.now) ≤ length into.old }
-    ensures { Put into.old into.new from (rows_text rows.now) result }
+pub(crate) fn put_rows(rows: &[SheetRow], into: &mut [u8], mut at: usize) -> usize
+    requires { at + length (rows_text rows.now) ≤ length into.old }
+    ensures { Put into.old into.new at (rows_text rows.now) result }
 {
-    let mut at = from;
     for row in rows {
         at = put_row(*row, into, at);
     }

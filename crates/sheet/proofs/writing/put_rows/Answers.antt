@@ -1,6 +1,4 @@
-use Rattle.std.proofs.Common.{sym, ap, arith}
-use Rattle.std.proofs.lemmas.List.{take_all}
-use Rattle.sheet.specs.Sheet.{rows_text}
+use Rattle.std.proofs.Common.{sym, arith}
 use Rattle.sheet.proofs.Puts.{put_then, put_is}
 use Rattle.sheet.proofs.Rows.{rows_more, rest_more}
 use Rattle.sheet.proofs.writing.put_rows.Goals as goal
