@@ -17,7 +17,7 @@ fn draw_signed(draws: &mut Draws, most: u32) -> i64
     if draws.below(2) == 0 {
         magnitude
     } else {
-        0 - magnitude
+        -magnitude
     }
 }
 
@@ -101,27 +101,22 @@ impl Called {
 // Both settled by a method.
 fn show_settled(rt: HostRuntime, called: &Called, name: u32, method: Method) -> io::Result<()> {
     let settled = settle_curtailment(&called.filed(method), called.deemed, called.used);
-    let supplied = settled.supplied;
-    let curtailed = settled.curtailed;
-    let imbalance = settled.imbalance;
-    let together = called.own + supplied;
-    let retail = retail_imbalance(together, called.demand);
+    let together = called.own + settled.supplied;
     print!(rt;
-        "; method {name}: supplied {supplied}, curtailed {curtailed}, imbalance {imbalance}, retailer supplied {together}, imbalance {retail}"
+        "; method {name}: supplied {}, curtailed {}, imbalance {}, retailer supplied {together}, imbalance {}",
+        settled.supplied,
+        settled.curtailed,
+        settled.imbalance,
+        retail_imbalance(together, called.demand)
     )
 }
 
 // One group and its retailer, by both methods.
 pub fn case(rt: HostRuntime, case: u64) -> io::Result<()> {
     let called = Called::draw(&mut Draws::of_case(case));
-    let baseline = called.baseline;
-    let plan = called.plan;
-    let deemed = called.deemed;
-    let used = called.used;
-    let own = called.own;
-    let demand = called.demand;
     print!(rt;
-        "{case} curtailment: baseline {baseline}, plan {plan}, deemed plan {deemed}, metered {used}; retailer: metered {own}, deemed demand {demand}"
+        "{case} curtailment: baseline {}, plan {}, deemed plan {}, metered {}; retailer: metered {}, deemed demand {}",
+        called.baseline, called.plan, called.deemed, called.used, called.own, called.demand
     )?;
     show_settled(rt, &called, 1, Method::One)?;
     show_settled(rt, &called, 2, Method::Two)?;

@@ -1,11 +1,13 @@
 // Divisions by both rules, of wholes from zero up and of signed wholes.
-ghost use Rattle.std.specs.Prelude.{◌≤◌};
+ghost use Rattle.std.specs.Prelude.{ℕ, ◌≤◌, List, Result};
+ghost use Rattle.terms.specs.declared.refusal.Refusal.{Refusal};
+ghost use Rattle.division.specs.Limits.{Divided};
+ghost use Rattle.division.specs.Signed.{DividedSigned};
 
-use crate::draws::{Draws, DrawsRows, fill};
-use crate::text::show_list;
+use crate::draws::{Draws, DrawsRows};
+use crate::rule::Rule;
+use crate::text::Spaced;
 use division::DivisionRule;
-use division::pro_rata::ProRata;
-use division::ranking::Ranked;
 use division::signed::divide_signed;
 use std::{fmt, io};
 use terms::refusal::Refusal;
@@ -48,30 +50,6 @@ impl DrawsRows<u64> for Claims {
     }
 }
 
-// Which rule divides.
-#[derive(Clone, Copy)]
-pub enum Rule {
-    ProRata,
-    Ranked,
-}
-
-impl Rule {
-    pub fn draw(draws: &mut Draws) -> Rule {
-        if draws.below(2) == 0 {
-            Rule::ProRata
-        } else {
-            Rule::Ranked
-        }
-    }
-
-    pub fn name(self) -> &'static str {
-        match self {
-            Rule::ProRata => "pro rata",
-            Rule::Ranked => "ranked",
-        }
-    }
-}
-
 // What a case divides by: a rule, so many claims, how they are drawn, and a buffer of so many places.
 #[derive(Clone, Copy)]
 struct Division {
@@ -110,7 +88,7 @@ impl Division {
     }
 }
 
-// A whole from 0 up to just over the limit, by a number below 16.
+// A whole from 0 up to just over the limit, by a number below 16: docs/FIGURES.md tells the kinds by these numbers, and an enum would only name them to match on them here.
 fn draw_magnitude(draws: &mut Draws, kind: u64) -> u64
     ensures { result ≤ 128000001 }
 {
@@ -123,44 +101,69 @@ fn draw_magnitude(draws: &mut Draws, kind: u64) -> u64
     }
 }
 
+// What a case divides: its parts are numbers like it.
+pub trait Whole: Copy + fmt::Display + From<u8> {
+    // what a division of the whole by a rule leaves of a buffer
+    ghost divided: { Self → (ℕ → List ℕ → List ℕ) → List ℕ → List Self → List Self → Result (Unit {0}) Refusal → Type 0 };
+
+    fn draw(draws: &mut Draws) -> Self;
+
+    fn divide_by<R: DivisionRule>(
+        self,
+        rule: &R,
+        claims: &[u64],
+        into: &mut [Self],
+    ) -> Result<(), Refusal>
+        ensures { divided self (R.DivisionRule.parts rule.now) claims.now into.old into.new result };
+}
+
 // A whole from 0 up; one in 16 is the largest number that can be written.
-fn draw_whole(draws: &mut Draws) -> u64 {
-    match draws.below(16) {
-        2 => u64::MAX,
-        kind => draw_magnitude(draws, kind),
+impl Whole for u64 {
+    ghost divided = { λ whole rule. Divided rule whole };
+
+    fn draw(draws: &mut Draws) -> u64 {
+        match draws.below(16) {
+            2 => u64::MAX,
+            kind => draw_magnitude(draws, kind),
+        }
+    }
+
+    fn divide_by<R: DivisionRule>(
+        self,
+        rule: &R,
+        claims: &[u64],
+        into: &mut [u64],
+    ) -> Result<(), Refusal> {
+        rule.divide(self, claims, into)
     }
 }
 
 // A signed whole, three in four with a minus; one in 16 is the lowest number that can be written.
-fn draw_signed(draws: &mut Draws) -> i64 {
-    match draws.below(16) {
-        2 => i64::MIN,
-        kind => {
-            let magnitude = draw_magnitude(draws, kind) as i64;
-            if draws.below(4) == 0 {
-                magnitude
-            } else {
-                0 - magnitude
+impl Whole for i64 {
+    ghost divided = { λ whole rule. DividedSigned rule whole };
+
+    fn draw(draws: &mut Draws) -> i64 {
+        match draws.below(16) {
+            2 => i64::MIN,
+            kind => {
+                let magnitude = draw_magnitude(draws, kind) as i64;
+                if draws.below(4) == 0 {
+                    magnitude
+                } else {
+                    -magnitude
+                }
             }
         }
     }
-}
 
-// The parts, or the refusal's number with the buffer as it was left.
-fn show_outcome<T: fmt::Display>(
-    rt: HostRuntime,
-    outcome: Result<(), Refusal>,
-    buffer: &[T],
-) -> io::Result<()> {
-    match outcome {
-        Ok(()) => print!(rt; ": parts")?,
-        Err(refusal) => {
-            let number = refusal.number();
-            print!(rt; ": refused {number}, buffer")?
-        }
+    fn divide_by<R: DivisionRule>(
+        self,
+        rule: &R,
+        claims: &[u64],
+        into: &mut [i64],
+    ) -> Result<(), Refusal> {
+        divide_signed(rule, self, claims, into)
     }
-    show_list(rt, buffer)?;
-    println!(rt; "")
 }
 
 // What is divided, and among whom.
@@ -171,45 +174,28 @@ fn show_division<W: fmt::Display>(
     whole: &W,
     claims: &[u64],
 ) -> io::Result<()> {
-    let rule = division.rule.name();
-    let room = division.room;
-    print!(rt; "{case} divide: {rule}, whole {whole}, claims")?;
-    show_list(rt, claims)?;
-    print!(rt; ", room {room}")
+    print!(rt;
+        "{case} divide: {}, whole {whole}, claims{}, room {}",
+        division.rule,
+        Spaced(claims),
+        division.room
+    )
 }
 
-// One division of a whole from 0 up.
-pub fn unsigned_case(rt: HostRuntime, case: u64) -> io::Result<()> {
+// One division: the parts, or the refusal's number with the buffer as it was left.
+pub fn case<W: Whole>(rt: HostRuntime, case: u64) -> io::Result<()> {
     let mut draws = Draws::of_case(case);
     let division = Division::draw(&mut draws);
-    let whole = draw_whole(&mut draws);
-    let mut space = [0; 12];
-    let claims = &mut space[0..division.count];
-    fill(&division.claims, &mut draws, claims);
-    let mut buffer = [9; 13];
-    let into = &mut buffer[0..division.room];
-    let outcome = match division.rule {
-        Rule::ProRata => ProRata.divide(whole, claims, into),
-        Rule::Ranked => Ranked.divide(whole, claims, into),
-    };
-    show_division(rt, case, &division, &whole, claims)?;
-    show_outcome(rt, outcome, into)
-}
-
-// One division of a signed whole.
-pub fn signed_case(rt: HostRuntime, case: u64) -> io::Result<()> {
-    let mut draws = Draws::of_case(case);
-    let division = Division::draw(&mut draws);
-    let whole = draw_signed(&mut draws);
-    let mut space = [0; 12];
-    let claims = &mut space[0..division.count];
-    fill(&division.claims, &mut draws, claims);
-    let mut buffer = [9; 13];
-    let into = &mut buffer[0..division.room];
-    let outcome = match division.rule {
-        Rule::ProRata => divide_signed(&ProRata, whole, claims, into),
-        Rule::Ranked => divide_signed(&Ranked, whole, claims, into),
-    };
-    show_division(rt, case, &division, &whole, claims)?;
-    show_outcome(rt, outcome, into)
+    let whole = W::draw(&mut draws);
+    let claims = division
+        .claims
+        .rows(rt.alloc(), division.count, &mut draws)?;
+    let mut buffer = vec![in rt.alloc(); W::from(9); division.room]?;
+    let outcome = whole.divide_by(&division.rule, &claims, &mut buffer);
+    show_division(rt, case, &division, &whole, &claims)?;
+    match outcome {
+        Ok(()) => print!(rt; ": parts")?,
+        Err(refusal) => print!(rt; ": refused {}, buffer", refusal.number())?,
+    }
+    println!(rt; "{}", Spaced(&buffer))
 }

@@ -1,7 +1,9 @@
 // The generator that every case is made with, and rows drawn one by one.
-ghost use Rattle.std.specs.Prelude.{◌≡◌, ◌^◌, ◌<◌, ◌≤◌, length};
+ghost use Rattle.std.specs.Prelude.{◌≡◌, ◌^◌, ◌<◌, ◌≤◌, length, IfOk};
 ghost use Rattle.std.specs.List.{AllByRecursion};
 ghost use Rattle.figures.specs.Drawn.{stepped, mixed, drawn, figure};
+
+use std::alloc::{AllocError, Global};
 
 const FACTOR: u64 = 6_364_136_223_846_793_005;
 
@@ -73,18 +75,26 @@ impl Draws {
 }
 
 // What draws rows, by the place that a row is to stand at; every row is fine.
-pub trait DrawsRows<T> {
+pub trait DrawsRows<T: Drop> {
     ghost fine: { Self → T → Type 0 };
 
     fn row(&self, place: usize, draws: &mut Draws) -> T
         ensures { fine self.now result };
-}
 
-// Draws every row, in order.
-pub fn fill<T: Drop, P: DrawsRows<T>>(pattern: &P, draws: &mut Draws, rows: &mut [T])
-    ensures { AllByRecursion (P.DrawsRows.fine pattern.now) rows.new }
-{
-    for i in 0..rows.len() {
-        rows[i] = pattern.row(i, draws);
+    // So many rows, drawn in order. As a chain, (0..count).map(..).collect(alloc), it does not prove that they are fine: the closure changes the draws.
+    final fn rows(
+        &self,
+        alloc: Global,
+        count: usize,
+        draws: &mut Draws,
+    ) -> Result<Vec<T>, AllocError>
+        ensures count { IfOk result (λ rows. length rows.items ≡ count) }
+        ensures fine { IfOk result (λ rows. AllByRecursion (fine self.now) rows.items) }
+    {
+        let mut rows = Vec::new(alloc);
+        for place in 0..count {
+            rows.push(self.row(place, draws))?;
+        }
+        Ok(rows)
     }
 }

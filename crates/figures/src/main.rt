@@ -2,33 +2,36 @@
 #![tactic(auto)]
 
 use std::io;
+use std::ops::Range;
 
 mod curtailing;
 mod dividing;
 mod draws;
 mod meters;
 mod plans;
+mod rule;
 mod text;
 mod trading;
 
-fn main(rt: HostRuntime) -> io::Result<()> {
-    for case in 1001..1071 {
-        dividing::unsigned_case(rt, case)?;
-    }
-    for case in 2001..2071 {
-        dividing::signed_case(rt, case)?;
-    }
-    for case in 3001..3071 {
-        trading::case(rt, case)?;
-    }
-    for case in 4001..4071 {
-        plans::case(rt, case)?;
-    }
-    for case in 5001..5071 {
-        curtailing::case(rt, case)?;
-    }
-    for case in 6001..6071 {
-        meters::case(rt, case)?;
+// The cases of one sort.
+fn show_each<F: Fn(HostRuntime, u64) -> io::Result<()>>(
+    rt: HostRuntime,
+    cases: Range<u64>,
+    show: F,
+) -> io::Result<()>
+    requires { F.IsAlwaysCallable show }
+{
+    for case in cases {
+        show(rt, case)?;
     }
     Ok(())
+}
+
+fn main(rt: HostRuntime) -> io::Result<()> {
+    show_each(rt, 1001..1071, dividing::case::<u64>)?;
+    show_each(rt, 2001..2071, dividing::case::<i64>)?;
+    show_each(rt, 3001..3071, trading::case)?;
+    show_each(rt, 4001..4071, plans::case)?;
+    show_each(rt, 5001..5071, curtailing::case)?;
+    show_each(rt, 6001..6071, meters::case)
 }

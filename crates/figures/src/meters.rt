@@ -1,16 +1,13 @@
 // Meters: tables of both kinds, read meter by meter, and an owner's metered demand by them.
-ghost use Rattle.std.specs.Prelude.{◌≤◌, length};
+ghost use Rattle.std.specs.Prelude.{◌≤◌};
 
-use crate::draws::{Draws, DrawsRows, fill};
-use crate::text::show_list;
+use crate::draws::{Draws, DrawsRows};
+use crate::text::Spaced;
 use metering::demand::metered_demand;
 use metering::half_hour::{HalfHourRow, HalfHourTable};
 use metering::register::{RegisterRow, RegisterTable};
 use metering::source::MeterSource;
 use std::io;
-
-// A table has at most so many rows.
-const MOST_ROWS: usize = 8;
 
 // The meters that are read.
 const ASKED: [u32; 6] = [0, 1, 2, 3, 99_999, 100_000];
@@ -81,22 +78,15 @@ fn show_readings<S: MeterSource>(rt: HostRuntime, source: &S) -> io::Result<()> 
     Ok(())
 }
 
-// The meter of the n-th place that an owner can have.
-fn place_meter(n: u64) -> u32 {
-    match n % 4 {
-        0 => 1,
-        1 => 2,
-        2 => 3,
-        _ => 99_999,
-    }
-}
+// The meters of an owner's places, in their turn.
+const PLACES: [u32; 4] = [1, 2, 3, 99_999];
 
 // An owner's places, one after another from a start, and its loss multiplier.
 #[derive(Clone, Copy)]
 struct Owner {
     multiplier: u32,
     count: usize,
-    start: u64,
+    start: usize,
     ghost loss: { multiplier ≤ 12000 },
     ghost few: { count ≤ 4 },
     ghost first: { start ≤ 3 },
@@ -106,7 +96,7 @@ impl Owner {
     fn draw(draws: &mut Draws) -> Owner {
         let multiplier = 10_000 + draws.small_figure(2_000);
         let count = draws.below(5) as usize;
-        let start = draws.below(4);
+        let start = draws.below(4) as usize;
         Owner {
             multiplier,
             count,
@@ -119,84 +109,53 @@ impl DrawsRows<u32> for Owner {
     ghost fine = { λ _ _. Unit {0} };
 
     fn row(&self, place: usize, _draws: &mut Draws) -> u32 {
-        place_meter(self.start + (place % 4) as u64)
+        PLACES[(self.start + place % 4) % 4]
     }
 }
 
-// The metered demand of an owner, or the first of its meters without a reading.
-fn show_demand<S: MeterSource>(
-    rt: HostRuntime,
-    source: &S,
-    owner: &Owner,
-    meters: &[u32],
-) -> io::Result<()>
-    requires { length meters.now ≤ 4 }
-{
-    let multiplier = owner.multiplier;
-    print!(rt; "; multiplier {multiplier}, places")?;
-    show_list(rt, meters)?;
-    match metered_demand(source, meters, multiplier) {
+// What a source answers: the readings, and the metered demand of an owner or the first of its meters without a reading.
+fn show_source<S: MeterSource>(rt: HostRuntime, source: &S, draws: &mut Draws) -> io::Result<()> {
+    show_readings(rt, source)?;
+    let owner = Owner::draw(draws);
+    let meters = owner.rows(rt.alloc(), owner.count, draws)?;
+    print!(rt;
+        "; multiplier {}, places{}",
+        owner.multiplier,
+        Spaced(&meters)
+    )?;
+    match metered_demand(source, &meters, owner.multiplier) {
         Ok(demand) => print!(rt; ": demand {demand}"),
         Err(meter) => print!(rt; ": without {meter}"),
     }
 }
 
-// What a source answers: the readings, and the demand of an owner.
-fn show_source<S: MeterSource>(rt: HostRuntime, source: &S, draws: &mut Draws) -> io::Result<()> {
-    show_readings(rt, source)?;
-    let owner = Owner::draw(draws);
-    let mut space = [0; 4];
-    let meters = &mut space[0..owner.count];
-    fill(&owner, draws, meters);
-    show_demand(rt, source, &owner, meters)
-}
-
 // A half-hour table.
-fn half_hour_case(rt: HostRuntime, count: usize, draws: &mut Draws) -> io::Result<()>
-    requires { count ≤ 8 }
-{
-    let mut space = [HalfHourRow { number: 0, kwh: 0 }; MOST_ROWS];
-    let rows = &mut space[0..count];
-    fill(&HalfHours, draws, rows);
-    for row in rows.iter() {
-        let number = row.number;
-        let kwh = row.kwh;
-        print!(rt; "; row {number} {kwh}")?;
+fn half_hour_case(rt: HostRuntime, count: usize, draws: &mut Draws) -> io::Result<()> {
+    let rows = HalfHours.rows(rt.alloc(), count, draws)?;
+    for row in &rows {
+        print!(rt; "; row {} {}", row.number, row.kwh)?;
     }
-    let table = HalfHourTable::new(rows.to_vec(rt.alloc())?);
-    show_source(rt, &table, draws)
+    show_source(rt, &HalfHourTable::new(rows), draws)
 }
 
 // A register table.
-fn register_case(rt: HostRuntime, count: usize, draws: &mut Draws) -> io::Result<()>
-    requires { count ≤ 8 }
-{
-    let blank = RegisterRow {
-        number: 0,
-        start: 0,
-        end: 0,
-        factor: 0,
-    };
-    let mut space = [blank; MOST_ROWS];
-    let rows = &mut space[0..count];
-    fill(&Registers, draws, rows);
-    for row in rows.iter() {
-        let number = row.number;
-        let start = row.start;
-        let end = row.end;
-        let factor = row.factor;
-        print!(rt; "; row {number} {start} {end} {factor}")?;
+fn register_case(rt: HostRuntime, count: usize, draws: &mut Draws) -> io::Result<()> {
+    let rows = Registers.rows(rt.alloc(), count, draws)?;
+    for row in &rows {
+        print!(rt;
+            "; row {} {} {} {}",
+            row.number, row.start, row.end, row.factor
+        )?;
     }
-    let table = RegisterTable::new(rows.to_vec(rt.alloc())?);
-    show_source(rt, &table, draws)
+    show_source(rt, &RegisterTable::new(rows), draws)
 }
 
 // One table of either kind.
 pub fn case(rt: HostRuntime, case: u64) -> io::Result<()> {
     let mut draws = Draws::of_case(case);
-    let kind = draws.below(2);
+    let is_half_hour = draws.below(2) == 0;
     let count = draws.below(12).min(8) as usize;
-    if kind == 0 {
+    if is_half_hour {
         print!(rt; "{case} half-hour meters")?;
         half_hour_case(rt, count, &mut draws)?;
     } else {

@@ -1,10 +1,15 @@
-// How cases are printed.
-use std::{fmt, io};
+// How lists are printed.
+use std::fmt;
 
 // A list, each item behind a space.
-pub fn show_list<T: fmt::Display>(rt: HostRuntime, items: &[T]) -> io::Result<()> {
-    for item in items {
-        print!(rt; " {item}")?;
+#[derive(Clone, Copy)]
+pub struct Spaced<'a, T>(pub &'a [T]);
+
+impl<T: fmt::Display> fmt::Display for Spaced<'_, T> {
+    fn fmt<W: fmt::Write>(&self, f: &mut fmt::Formatter<W>) -> fmt::Result {
+        for item in self.0 {
+            write!(f, " {item}")?;
+        }
+        Ok(())
     }
-    Ok(())
 }

@@ -2,28 +2,17 @@
 ghost use Rattle.std.specs.Prelude.{◌≡◌, ◌<◌, ◌≤◌, false, length, ◌≢◌};
 ghost use Rattle.std.specs.List.{AllByRecursion};
 ghost use Rattle.trades.specs.Trades.{faces};
-ghost use Rattle.planning.specs.All.{Trading};
+ghost use Rattle.std.proofs.Props.{props};
 ghost use Rattle.figures.specs.Rows.{line_fine, homed};
 
-use crate::draws::{Draws, DrawsRows, fill};
-use std::io;
+use crate::draws::{Draws, DrawsRows};
+use std::alloc::{AllocError, Global};
+use std::{fmt, io};
 use terms::codes::Direction;
 use terms::partner::Partner;
 use terms::records::Line;
 use trades::balances::balance_of;
 use trades::lines::correct_lines;
-
-// A case has at most so many lines.
-pub const MOST_LINES: usize = 12;
-
-// A line that stands where none was drawn yet.
-pub const BLANK: Line = Line {
-    contract: 11,
-    direction: Direction::Sale,
-    partner: Partner::Exchange,
-    planned: 0,
-    agreed: 0,
-};
 
 // So many keys can be drawn.
 const KEYS: u64 = 30;
@@ -42,8 +31,8 @@ pub fn draw_most(draws: &mut Draws) -> u32
 
 // How many lines a case has, which keys they have and what their figures go up to.
 #[derive(Clone, Copy)]
-pub struct LinePattern {
-    pub count: usize,
+struct LinePattern {
+    count: usize,
     start: u64,
     stride: u64,
     most: u32,
@@ -54,7 +43,7 @@ pub struct LinePattern {
 }
 
 impl LinePattern {
-    pub fn draw(draws: &mut Draws) -> LinePattern {
+    fn draw(draws: &mut Draws) -> LinePattern {
         let count = draws.below(16).min(12) as usize;
         let start = draws.below(KEYS);
         let stride = draw_stride(draws);
@@ -99,36 +88,25 @@ fn next_contract(contract: u32) -> u32
     11 + (contract - 10) % 3
 }
 
-// Keys between a contract and the next: two opposite pairs.
+// Keys between a contract and the next: two opposite pairs. The kinds are the numbers that docs/FIGURES.md tells them by; an enum would only name them to match on them here.
 fn key_between(contract: u32, kind: u64) -> Key
     requires { homed contract }
 {
     let next = next_contract(contract);
-    match kind {
-        0 => Key {
-            contract,
-            direction: Direction::Sale,
-            partner: Partner::Contract(next),
-        },
-        1 => Key {
-            contract: next,
-            direction: Direction::Purchase,
-            partner: Partner::Contract(contract),
-        },
-        2 => Key {
-            contract,
-            direction: Direction::Purchase,
-            partner: Partner::Contract(next),
-        },
-        _ => Key {
-            contract: next,
-            direction: Direction::Sale,
-            partner: Partner::Contract(contract),
-        },
+    let (contract, direction, partner) = match kind {
+        0 => (contract, Direction::Sale, next),
+        1 => (next, Direction::Purchase, contract),
+        2 => (contract, Direction::Purchase, next),
+        _ => (next, Direction::Sale, contract),
+    };
+    Key {
+        contract,
+        direction,
+        partner: Partner::Contract(partner),
     }
 }
 
-// Keys with the exchange, an outside party and a contract without lines.
+// Keys with the exchange, an outside party and a contract without lines, by the numbers of docs/FIGURES.md too.
 fn key_outward(contract: u32, kind: u64) -> Key
     requires { homed contract }
 {
@@ -177,67 +155,78 @@ impl DrawsRows<Line> for LinePattern {
     }
 }
 
-// A line and its corrected figure.
-fn show_line(rt: HostRuntime, line: &Line, figure: u32) -> io::Result<()> {
-    let contract = line.contract;
-    let trade = match line.direction {
-        Direction::Sale => "sells to",
-        Direction::Purchase => "buys from",
-    };
-    let planned = line.planned;
-    let agreed = line.agreed;
-    match line.partner {
-        Partner::Exchange => print!(rt; "; {contract} {trade} exchange")?,
-        Partner::Outside(number) => print!(rt; "; {contract} {trade} outside {number}")?,
-        Partner::Contract(number) => print!(rt; "; {contract} {trade} contract {number}")?,
+// The lines of a case, and their corrected figures.
+#[derive(Drop)]
+pub struct Trades {
+    pub lines: Vec<Line>,
+    pub figures: Vec<u32>,
+    ghost few: { length lines.items ≤ 12 },
+    ghost room: { length figures.items ≡ length lines.items },
+    ghost small: { AllByRecursion (λ f. f ≤ 2000000) figures.items } by { Prim.hlevel props },
+}
+
+impl Trades {
+    pub fn draw(alloc: Global, draws: &mut Draws) -> Result<Trades, AllocError> {
+        let pattern = LinePattern::draw(draws);
+        let lines = pattern.rows(alloc, pattern.count, draws)?;
+        let mut figures = vec![in alloc; 0; lines.len()]?;
+        correct_lines(&lines, &mut figures);
+        Ok(Trades { lines, figures })
     }
-    print!(rt; ", planned {planned}, agreed {agreed}: {figure}")
+
+    // What each contract sold and bought.
+    fn show_balances(&self, rt: HostRuntime) -> io::Result<()> {
+        for contract in 11..14 {
+            let balance = balance_of(&self.lines, &self.figures, contract);
+            print!(rt;
+                "; contract {contract} sold {} bought {}",
+                balance.sold(),
+                balance.bought()
+            )?;
+        }
+        Ok(())
+    }
+}
+
+// A partner as a line names it.
+#[derive(Clone, Copy)]
+struct Named(Partner);
+
+impl fmt::Display for Named {
+    fn fmt<W: fmt::Write>(&self, f: &mut fmt::Formatter<W>) -> fmt::Result {
+        match self.0 {
+            Partner::Exchange => write!(f, "exchange"),
+            Partner::Outside(number) => write!(f, "outside {number}"),
+            Partner::Contract(number) => write!(f, "contract {number}"),
+        }
+    }
 }
 
 // Every line with its corrected figure.
-pub fn show_lines(rt: HostRuntime, lines: &[Line], figures: &[u32]) -> io::Result<()>
-    requires { length figures.now ≡ length lines.now }
-{
-    for i in 0..lines.len() {
-        show_line(rt, &lines[i], figures[i])?;
+impl fmt::Display for Trades {
+    fn fmt<W: fmt::Write>(&self, f: &mut fmt::Formatter<W>) -> fmt::Result {
+        for (line, figure) in self.lines.iter().zip(&self.figures) {
+            let trade = match line.direction {
+                Direction::Sale => "sells to",
+                Direction::Purchase => "buys from",
+            };
+            write!(
+                f,
+                "; {} {trade} {}, planned {}, agreed {}: {figure}",
+                line.contract,
+                Named(line.partner),
+                line.planned,
+                line.agreed
+            )?;
+        }
+        Ok(())
     }
-    Ok(())
-}
-
-// What each contract sold and bought.
-fn show_balances(rt: HostRuntime, lines: &[Line], figures: &[u32]) -> io::Result<()>
-    requires { Trading lines.now figures.now }
-{
-    for contract in 11..14 {
-        let balance = balance_of(lines, figures, contract);
-        let sold = balance.sold();
-        let bought = balance.bought();
-        print!(rt; "; contract {contract} sold {sold} bought {bought}")?;
-    }
-    Ok(())
-}
-
-// Draws the lines of a case, and their corrected figures.
-pub fn draw_lines(pattern: &LinePattern, draws: &mut Draws, lines: &mut [Line], figures: &mut [u32])
-    requires few { length lines.old ≤ 12 }
-    requires room { length figures.old ≡ length lines.old }
-    ensures { Trading lines.new figures.new }
-{
-    fill(pattern, draws, lines);
-    correct_lines(lines, figures);
 }
 
 // One list of trades.
 pub fn case(rt: HostRuntime, case: u64) -> io::Result<()> {
-    let mut draws = Draws::of_case(case);
-    let pattern = LinePattern::draw(&mut draws);
-    let mut space = [BLANK; MOST_LINES];
-    let mut figure_space = [0; MOST_LINES];
-    let lines = &mut space[0..pattern.count];
-    let figures = &mut figure_space[0..pattern.count];
-    draw_lines(&pattern, &mut draws, lines, figures);
-    print!(rt; "{case} trades")?;
-    show_lines(rt, lines, figures)?;
-    show_balances(rt, lines, figures)?;
+    let trades = Trades::draw(rt.alloc(), &mut Draws::of_case(case))?;
+    print!(rt; "{case} trades{trades}")?;
+    trades.show_balances(rt)?;
     println!(rt; "")
 }

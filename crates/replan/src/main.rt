@@ -2,7 +2,8 @@
 #![tactic(auto)]
 
 ghost use Rattle.std.specs.Prelude.{◌≡◌, ◌≤◌, length};
-ghost use Rattle.planning.specs.Plans.{Limits};
+ghost use Rattle.std.specs.List.{AllByRecursion};
+ghost use Rattle.std.proofs.Props.{props};
 ghost use Rattle.terms.specs.Plans.{plan_of};
 
 use division::pro_rata::ProRata;
@@ -17,6 +18,7 @@ const CONTRACT: u32 = 11;
 
 fn group(number: u32) -> Group
     ensures number { result.number ≡ number }
+    ensures contract { result.contract ≡ CONTRACT }
     ensures plan { plan_of result ≡ 0 }
 {
     Group {
@@ -37,174 +39,131 @@ fn share(group: u32, plant: u32, planned: u32) -> Share
     }
 }
 
+// A producer with the groups 1 and 2: what it planned share by share, and what it sold and bought.
+#[derive(Clone, Copy)]
+struct Example<'a> {
+    title: &'a str,
+    shares: &'a [Share],
+    sold: u32,
+    bought: u32,
+    ghost few: { length shares.now ≤ 256 },
+    ghost planned: { AllByRecursion (λ s. s.planned ≤ 2000000) shares.now } by { Prim.hlevel props },
+    ghost traded: { (sold ≤ 128000000) × (bought ≤ 128000000) },
+}
+
 // Prints a division's lines and what their parts come to.
 fn show(rt: HostRuntime, what: &str, worked: &Worked) -> io::Result<()> {
     for line in worked.lines.as_slice() {
         println!(rt; "  {what} {line}")?;
     }
-    let together = worked.together;
-    println!(rt; "  {what}s together {together}")
+    println!(rt; "  {what}s together {}", worked.together)
 }
 
-// Corrects the plan of a producer that sold and bought so much, and prints every step.
-fn replan(
-    rt: HostRuntime,
-    title: &str,
-    groups: &[Group],
-    shares: &[Share],
-    sold: u32,
-    bought: u32,
-    group_plans: &mut [i64],
-    share_plans: &mut [i64],
-) -> io::Result<()>
-    requires limits { Limits groups.now shares.now }
-    requires traded { (sold ≤ 128000000) × (bought ≤ 128000000) }
-    requires groups { length group_plans.old ≡ length groups.now }
-    requires shares { length share_plans.old ≡ length shares.now }
-{
-    let balance = Balance::of(sold, bought);
+// Corrects the producer's plan, and prints every step.
+fn replan(rt: HostRuntime, example: &Example) -> io::Result<()> {
+    let shares = example.shares;
+    let groups = [group(1), group(2)];
+    let mut group_plans = [0; 2];
+    let mut share_plans = vec![in rt.alloc(); 0; shares.len()]?;
+    let share_plans = share_plans.as_mut_slice();
+    let balance = Balance::of(example.sold, example.bought);
     correct_plan(
         &ProRata,
         &ProRata,
         CONTRACT,
         &balance,
-        groups,
+        &groups,
         shares,
-        group_plans,
+        &mut group_plans,
         share_plans,
     );
-    println!(rt; "{title}")?;
+    println!(rt; "{}", example.title)?;
     println!(rt; "{balance}")?;
-    let worked = work_out_groups(groups, shares, CONTRACT, balance.own(), group_plans);
+    let worked = work_out_groups(&groups, shares, CONTRACT, balance.own(), &group_plans);
     show(rt, "group", &worked)?;
-    for k in 0..groups.len() {
-        let group = groups[k];
-        if group.contract == CONTRACT {
-            let number = group.number;
-            let plan = group_plans[k];
-            println!(rt; "group {number}, plan {plan}")?;
-            let worked = work_out_shares(shares, number, plan, share_plans);
-            show(rt, "plant", &worked)?;
-        }
+    for (group, plan) in groups.iter().zip(&group_plans) {
+        println!(rt; "group {}, plan {plan}", group.number)?;
+        let worked = work_out_shares(shares, group.number, *plan, share_plans);
+        show(rt, "plant", &worked)?;
     }
     println!(rt; "")
 }
 
-// The trade's published examples of a plan that does not fit the trades.
-fn published_examples(rt: HostRuntime) -> io::Result<()> {
-    let groups = [group(1), group(2)];
-    let shares = [
-        share(1, 1, 100),
-        share(1, 2, 50),
-        share(2, 3, 30),
-        share(2, 4, 20),
-    ];
-    replan(
-        rt,
-        "The exchange took more than was planned",
-        &groups,
-        &shares,
-        300,
-        0,
-        &mut [0; 2],
-        &mut [0; 4],
-    )?;
-    let shares = [
-        share(1, 1, 250),
-        share(1, 2, 50),
-        share(2, 3, 130),
-        share(2, 4, 70),
-    ];
-    replan(
-        rt,
-        "Less was sent to another area than was planned",
-        &groups,
-        &shares,
-        400,
-        0,
-        &mut [0; 2],
-        &mut [0; 4],
-    )?;
-    let shares = [
-        share(1, 1, 250),
-        share(1, 2, 50),
-        share(2, 3, 70),
-        share(2, 4, 30),
-    ];
-    replan(
-        rt,
-        "The partner planned to buy less",
-        &groups,
-        &shares,
-        200,
-        0,
-        &mut [0; 2],
-        &mut [0; 4],
-    )?;
-    let shares = [
-        share(1, 1, 150),
-        share(1, 2, 100),
-        share(2, 3, 90),
-        share(2, 4, 60),
-    ];
-    replan(
-        rt,
-        "The plan left the purchases out",
-        &groups,
-        &shares,
-        400,
-        200,
-        &mut [0; 2],
-        &mut [0; 4],
-    )?;
-    let shares = [share(1, 1, 30), share(2, 2, 30)];
-    replan(
-        rt,
-        "Two groups of one plant each",
-        &groups,
-        &shares,
-        100,
-        80,
-        &mut [0; 2],
-        &mut [0; 2],
-    )
-}
-
-// Two examples more: kWh left over on both levels, and purchases above the sales.
-fn further_examples(rt: HostRuntime) -> io::Result<()> {
-    let groups = [group(1), group(2)];
-    let shares = [
-        share(1, 1, 4),
-        share(1, 2, 1),
-        share(1, 3, 5),
-        share(2, 4, 3),
-        share(2, 5, 3),
-        share(2, 6, 1),
-    ];
-    replan(
-        rt,
-        "kWh left over among groups and among plants",
-        &groups,
-        &shares,
-        12,
-        0,
-        &mut [0; 2],
-        &mut [0; 6],
-    )?;
-    let shares = [share(1, 1, 4), share(1, 2, 1), share(2, 3, 5)];
-    replan(
-        rt,
-        "Purchases above the sales: the magnitude is divided, and every part takes the sign",
-        &groups,
-        &shares,
-        5,
-        12,
-        &mut [0; 2],
-        &mut [0; 3],
-    )
-}
-
+// The trade's published examples of a plan that does not fit the trades, and two more: kWh left over on both levels, and purchases above the sales.
 fn main(rt: HostRuntime) -> io::Result<()> {
-    published_examples(rt)?;
-    further_examples(rt)
+    let examples = [
+        Example {
+            title: "The exchange took more than was planned",
+            shares: &[
+                share(1, 1, 100),
+                share(1, 2, 50),
+                share(2, 3, 30),
+                share(2, 4, 20),
+            ],
+            sold: 300,
+            bought: 0,
+        },
+        Example {
+            title: "Less was sent to another area than was planned",
+            shares: &[
+                share(1, 1, 250),
+                share(1, 2, 50),
+                share(2, 3, 130),
+                share(2, 4, 70),
+            ],
+            sold: 400,
+            bought: 0,
+        },
+        Example {
+            title: "The partner planned to buy less",
+            shares: &[
+                share(1, 1, 250),
+                share(1, 2, 50),
+                share(2, 3, 70),
+                share(2, 4, 30),
+            ],
+            sold: 200,
+            bought: 0,
+        },
+        Example {
+            title: "The plan left the purchases out",
+            shares: &[
+                share(1, 1, 150),
+                share(1, 2, 100),
+                share(2, 3, 90),
+                share(2, 4, 60),
+            ],
+            sold: 400,
+            bought: 200,
+        },
+        Example {
+            title: "Two groups of one plant each",
+            shares: &[share(1, 1, 30), share(2, 2, 30)],
+            sold: 100,
+            bought: 80,
+        },
+        Example {
+            title: "kWh left over among groups and among plants",
+            shares: &[
+                share(1, 1, 4),
+                share(1, 2, 1),
+                share(1, 3, 5),
+                share(2, 4, 3),
+                share(2, 5, 3),
+                share(2, 6, 1),
+            ],
+            sold: 12,
+            bought: 0,
+        },
+        Example {
+            title: "Purchases above the sales: the magnitude is divided, and every part takes the sign",
+            shares: &[share(1, 1, 4), share(1, 2, 1), share(2, 3, 5)],
+            sold: 5,
+            bought: 12,
+        },
+    ];
+    for example in examples {
+        replan(rt, &example)?;
+    }
+    Ok(())
 }

@@ -3,7 +3,7 @@
 
 ghost use Rattle.sheet.specs.Sheet.{Sheeted};
 
-use crate::room::fits;
+use crate::room::room_left;
 use crate::writing::{put_header, put_rows};
 use terms::codes::Kind;
 use terms::refusal::Refusal;
@@ -12,6 +12,7 @@ mod room;
 mod writing;
 
 // A row of the sheet: one of a generation or negawatt contract's groups, or a retail contract, which has 0 for the group.
+// The group is a number, since 0 is what the sheet shows there: an Option would only be turned back into it.
 #[derive(Clone, Copy)]
 pub struct SheetRow {
     pub kind: Kind,
@@ -26,9 +27,7 @@ pub struct SheetRow {
 pub fn write_sheet(rows: &[SheetRow], buffer: &mut [u8]) -> Result<usize, Refusal>
     ensures { Sheeted rows.now buffer.old buffer.new result }
 {
-    if !fits(rows, buffer.len()) {
-        return Err(Refusal::ShortBuffer);
-    }
+    room_left(rows, buffer.len()).ok_or(Refusal::ShortBuffer)?;
     let at = put_header(buffer);
     Ok(put_rows(rows, buffer, at))
 }

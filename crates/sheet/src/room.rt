@@ -1,34 +1,26 @@
 // Whether a sheet has room, before any of it is written.
-ghost use Rattle.std.specs.Prelude.{◌≡◌, length, nat_le};
+ghost use Rattle.std.specs.Prelude.{◌≡◌, ◌+◌, ◌≤◌, ◌↔◌, length, IsSome, IfSome};
 ghost use Rattle.sheet.specs.Sheet.{row_text, sheet_text};
 
 use crate::SheetRow;
-use crate::writing::put_row;
-
-const HEADER_LENGTH: usize = 45;
+use crate::writing::{HEADER, put_row};
 
 // The length of a record, by writing it to the side: six figures of at most 20 bytes, five commas and a line end.
+// A sum of the six figures' lengths would say a second time what a record consists of.
 fn row_length(row: SheetRow) -> usize
     ensures { result ≡ length (row_text row) }
 {
-    let mut aside = [0u8; 127];
-    put_row(row, &mut aside, 0)
+    put_row(row, &mut [0; 127], 0)
 }
 
-// What is left of the room goes down by the length of each record, so that no sum of lengths can wrap.
-pub(crate) fn fits(rows: &[SheetRow], room: usize) -> bool
-    ensures { result ≡ nat_le (length (sheet_text rows.now)) room }
+// What the sheet leaves of the room, if it has room. The room goes down by the length of each record, so that no sum of lengths can wrap.
+pub(crate) fn room_left(rows: &[SheetRow], room: usize) -> Option<usize>
+    ensures fits { IsSome result ↔ (length (sheet_text rows.now) ≤ room) }
+    ensures rest { IfSome result (λ left. length (sheet_text rows.now) + left ≡ room) }
 {
-    if room < HEADER_LENGTH {
-        return false;
-    }
-    let mut left = room - HEADER_LENGTH;
+    let mut left = room.checked_sub(HEADER.len())?;
     for row in rows {
-        let long = row_length(*row);
-        if left < long {
-            return false;
-        }
-        left -= long;
+        left = left.checked_sub(row_length(*row))?;
     }
-    true
+    Some(left)
 }

@@ -1,18 +1,10 @@
-use Rattle.std.proofs.Common.{sym, ap, arith}
-use Rattle.std.proofs.lemmas.List.{take_all}
-use Rattle.sheet.specs.Sheet.{rows_text}
+use Rattle.std.proofs.Common.{sym, arith}
 use Rattle.sheet.proofs.Puts.{put_then, put_is}
 use Rattle.sheet.proofs.Rows.{rows_more, rest_more}
 use Rattle.sheet.proofs.writing.put_rows.Goals as goal
-
-pub put_row-at-requires : goal.put_row-at-requires
-put_row-at-requires c = omega (arith, rest_more c.args.rows.now c.loop-row.row-index (omega arith))
 
 pub loop-row-preserved : goal.loop-row-preserved
 loop-row-preserved c = (
   put_is (sym (rows_more c.args.rows.now c.loop-row.row-index (omega arith))) (put_then _ _ c.loop-row.invariant.0 c.put_row-at.ensures),
   omega (arith, c.put_row-at.ensures.ends, rest_more c.args.rows.now c.loop-row.row-index (omega arith)),
 )
-
-pub returns : goal.returns
-returns c = put_is (ap rows_text (take_all c.loop-row.row-index c.args.rows.now (omega arith))) c.loop-row.invariant.0

@@ -1,0 +1,57 @@
+use Rattle.std.proofs.Common.{◌≡◌, rules, arith, length, ap, List, subst, sym, ◌≤◌, ℤ, nat_abs}
+use Rattle.std.specs.List.{AllByRecursion}
+use Rattle.terms.specs.declared.records.Group.{Group}
+use Rattle.terms.specs.declared.records.Share.{Share}
+use Rattle.terms.specs.Plans.{plan_of}
+use Rattle.division.specs.Terms.{Keeps}
+use Rattle.division.proofs.Signs.{back-small}
+use Rattle.figures.specs.Rules.{parts_by, length-parts_by, sum-parts_by}
+use Rattle.figures.proofs.Lined.{trading}
+use Rattle.figures.proofs.Parted.{Small, all-parts-small}
+use Rattle.figures.proofs.plans.case.Goals as goal
+
+pub correct_plans-requires-clause-trading : goal.correct_plans-requires-clause-trading
+correct_plans-requires-clause-trading c =
+    let t = c.in_ok-trades.trades in
+    trading c.deref.ensures.value c.deref-2.ensures.value t.few t.room t.small
+
+pub correct_plans-requires-clause-limits : goal.correct_plans-requires-clause-limits
+correct_plans-requires-clause-limits c = record {
+  few_groups = search rules;
+  few_shares = omega (arith, ap length c.deref-3.ensures.value, c.in_ok-shares.ensures.count);
+  apart = c.groups-groups.ensures.apart;
+  plans = c.groups-groups.ensures.plans;
+  planned = subst (λ (xs : List Share). AllByRecursion (λ s. s.planned ≤ 2000000) xs) (sym c.deref-3.ensures.value) c.in_ok-shares.ensures.fine;
+}
+
+pub loop-group-init : goal.loop-group-init
+loop-group-init c =
+    let t = c.in_ok-trades.trades in
+    let first = c.draw-first.result in
+    let keeps : Keeps (parts_by first) = record { each = length-parts_by first; all = sum-parts_by first } in
+    let small : AllByRecursion Small c.correct_plans.new.group_parts =
+    all-parts-small (parts_by first) (parts_by c.draw-second.result) keeps c.contract.result c.contract-2.result c.contract-3.result c.contract.ensures c.contract-2.ensures c.contract-3.ensures
+    c.deref.result.now c.deref-2.result.now (trading c.deref.ensures.value c.deref-2.ensures.value t.few t.room t.small) c.groups-groups.result c.deref-3.result.now c.groups-groups.ensures.homes
+    _ c.correct_plans.new.group_parts c.deref_mut.result.now c.correct_plans.new.share_plans (omega (arith, c.correct_plans.auto.group_parts)) c.correct_plans.ensures in
+    let groups : c.into_iter-group-iterator.result.a.rest.now ≡ c.groups-groups.result = cc in
+    let parts : c.into_iter-group-iterator.result.b.rest.now ≡ c.correct_plans.new.group_parts = cc in
+    record {
+      filed = subst (λ (gs : List Group). AllByRecursion (λ g. plan_of g ≤ 2000000) gs) (sym groups) c.groups-groups.ensures.plans;
+      small = subst (λ (ps : List ℤ). AllByRecursion Small ps) (sym parts) small;
+    }
+
+pub loop-group-preserved : goal.loop-group-preserved
+loop-group-preserved c =
+    let steps = c.in-Some.ensures.steps in
+    record {
+      filed = (subst (λ (gs : List Group). AllByRecursion (λ g. plan_of g ≤ 2000000) gs) steps.0 c.loop-group.invariant.filed).1;
+      small = (subst (λ (ps : List ℤ). AllByRecursion Small ps) steps.1 c.loop-group.invariant.small).1;
+    }
+
+pub group_plan-requires : goal.group_plan-requires
+group_plan-requires c =
+    let steps = c.in-Some.ensures.steps in
+    let small = (subst (λ (ps : List ℤ). AllByRecursion Small ps) steps.1 c.loop-group.invariant.small).0 in (
+      omega (arith, small, ap nat_abs (back-small c.in-Some.part.now small)),
+      (subst (λ (gs : List Group). AllByRecursion (λ g. plan_of g ≤ 2000000) gs) steps.0 c.loop-group.invariant.filed).0,
+    )
