@@ -4,6 +4,7 @@ use Rattle.std.specs.List.{AllByRecursion}
 use Rattle.std.proofs.ByRecursion.{All-weaker, sum_by_le}
 use Rattle.tables.specs.Keys.{count_if}
 use Rattle.tables.proofs.Adding.{figured_each}
+use Rattle.tables.proofs.Gathering.{figures-light, count_few}
 use Rattle.sharing.proofs.Levelling.{claims-within}
 use Rattle.terms.specs.Owners.{is_of}
 use Rattle.terms.specs.declared.codes.Kind.TheVariants.{Generation as Generating}
@@ -17,7 +18,7 @@ use Rattle.terms.specs.declared.records.Owner.{Owner}
 use Rattle.terms.specs.declared.records.Place.{Place}
 use Rattle.terms.specs.declared.records.Share.{Share}
 use Rattle.curtailment.specs.Methods.{figures, settled_by}
-use Rattle.settlement.specs.Groups.{of_group, group_demand, settled_as, group_settled, groups_settled, SoundSort}
+use Rattle.settlement.specs.Groups.{shares_of, output_of, of_group, group_demand, settled_as, group_settled, groups_settled, SoundSort}
 use Rattle.settlement.specs.Retailers.{supplied_to}
 use Rattle.settlement.specs.declared.groups.SettledGroup.{SettledGroup}
 use Rattle.settlement.proofs.Metering.{demand-small, loss_small}
@@ -31,9 +32,13 @@ no_contract = record { number = 0; kind = Generating; multiplier = 0 }
 abbrev pub not_yet : SettledGroup
 not_yet = record { retailer = 0; supplied = 0; measured = 0; imbalance = pos 0 }
 
+-- what a group's shares were allotted together
+pub output_light : (group : ℕ) (shares : List Share) (allotted : List ℕ) → length shares ≤ 256 → AllByRecursion (λ x. x ≤ 2000000) allotted → output_of group shares allotted ≤ 512000000
+output_light group shares allotted few small = omega (arith, figures-light (shares_of group) 2000000 shares allotted small, count_few (shares_of group) shares, few)
+
 -- what a retailer's groups were supplied with
-pub supplied-light : (number : ℕ) (groups : List SettledGroup) → length groups ≤ 96 → AllByRecursion (λ g. g.supplied ≤ 153600000) groups → supplied_to number groups ≤ 14745600000
-supplied-light number groups few small =
+pub supplied_light : (number : ℕ) (groups : List SettledGroup) → length groups ≤ 96 → AllByRecursion (λ g. g.supplied ≤ 153600000) groups → supplied_to number groups ≤ 14745600000
+supplied_light number groups few small =
     omega (arith, claims-within (λ (g : SettledGroup). g.retailer) (λ (g : SettledGroup). g.supplied) number groups, sum_by_le (λ (g : SettledGroup). g.supplied) 153600000 groups small)
 
 -- by either method no more is supplied than was used, or than the baseline
