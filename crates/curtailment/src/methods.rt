@@ -39,7 +39,8 @@ impl Called {
 
     // Method 1: use above the baseline, and saving beyond the plan, are the retailer's; saving short of the plan is the group's.
     fn by_method_one(self) -> Settled
-        ensures { result ≡ settled_by Method.One self.baseline self.plan self.deemed self.used }
+        ensures value { result ≡ settled_by Method.One self.baseline self.plan self.deemed self.used }
+        ensures within { result.supplied ≤ 153600000 }
     {
         let supplied = self.baseline - self.plan;
         if self.used > self.baseline {
@@ -53,7 +54,8 @@ impl Called {
 
     // Method 2: every difference is the group's.
     fn by_method_two(self) -> Settled
-        ensures { result ≡ settled_by Method.Two self.baseline self.plan self.deemed self.used }
+        ensures value { result ≡ settled_by Method.Two self.baseline self.plan self.deemed self.used }
+        ensures within { result.supplied ≤ 153600000 }
     {
         Settled {
             supplied: self.baseline - self.plan,
@@ -69,6 +71,7 @@ pub fn settle_curtailment(curtailment: &Curtailment, deemed: i64, used: u64) -> 
     requires small { (unsigned_abs deemed ≤ 130000000) × (used ≤ 153600000) }
     ensures value { result ≡ settled_by curtailment.now.method curtailment.now.baseline curtailment.now.plan deemed used }
     ensures sum { pos result.supplied +ℤ result.imbalance ≡ deemed +ℤ pos used -ℤ pos curtailment.now.plan }
+    ensures within { result.supplied ≤ 153600000 }
 {
     let called = Called {
         baseline: u64::from(curtailment.baseline),

@@ -4,7 +4,7 @@ ghost use Rattle.std.specs.List.{AllByRecursion};
 ghost use Rattle.std.proofs.Props.{props};
 ghost use Rattle.tables.specs.Keys.{count_if};
 ghost use Rattle.tables.specs.Listed.{listed};
-ghost use Rattle.terms.specs.declared.records.Owner.{Owner as AnOwner};
+ghost use Rattle.terms.specs.declared.records.Owner.{Owner};
 ghost use Rattle.terms.specs.Owners.{is_of};
 ghost use Rattle.settlement.specs.Demand.{kwh_read, meters_of, demand_by, loss_of};
 
@@ -50,7 +50,7 @@ pub struct Area<'a, S: MeterSource> {
     pub contracts: &'a [Contract],
     pub places: &'a [Place],
     pub ghost multipliers: { AllByRecursion (λ c. c.multiplier ≤ 12000) contracts.now } by { Prim.hlevel props },
-    pub ghost allowed: { (owner : AnOwner) → count_if (is_of owner) places.now ≤ 64 },
+    pub ghost allowed: { (owner : Owner) → count_if (is_of owner) places.now ≤ 64 },
     pub ghost known: { AllByRecursion (λ p. is_some (S.MeterSource.read source.now p.meter) ≡ true) places.now } by { Prim.hlevel props },
 }
 

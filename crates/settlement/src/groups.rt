@@ -17,7 +17,8 @@ use terms::codes::OwnerKind;
 use terms::records::{Curtailment, Group, GroupSort, Owner, Share};
 
 // A settled group: the kWh that it is measured by, allotted to a generation group or curtailed by a curtailment group; its imbalance, where positive is shortage;
-// and what the customers of a curtailment group were supplied with, for which the retailer is settled whom it names. A generation group names retailer 0.
+// and what the customers of a curtailment group were supplied with, for which the retailer is settled whom it names. A generation group names retailer 0:
+// an `Option` would be no plainer, since totals ask every row for its owner's number, so that `owner` would make a 0 of `None` again.
 #[derive(Clone, Copy)]
 pub struct SettledGroup {
     pub retailer: u32,
@@ -94,7 +95,8 @@ fn settle_generation(plan: i64, output: u64) -> SettledGroup
 fn settle_saving(curtailment: &Curtailment, deemed: i64, used: u64) -> SettledGroup
     requires plan { (curtailment.now.plan ≤ curtailment.now.baseline) × (curtailment.now.baseline ≤ 2000000) }
     requires small { (unsigned_abs deemed ≤ 130000000) × (used ≤ 153600000) }
-    ensures { result ≡ curtailment_settled curtailment.now.retailer (settled_by curtailment.now.method curtailment.now.baseline curtailment.now.plan deemed used) }
+    ensures value { result ≡ curtailment_settled curtailment.now.retailer (settled_by curtailment.now.method curtailment.now.baseline curtailment.now.plan deemed used) }
+    ensures within { result.supplied ≤ 153600000 }
 {
     let settled = settle_curtailment(curtailment, deemed, used);
     SettledGroup {
@@ -126,7 +128,8 @@ fn settle_group<S: MeterSource>(
 ) -> SettledGroup
     requires sound { SoundSort group.now.sort }
     requires small { unsigned_abs part ≤ 128000000 }
-    ensures { result ≡ group_settled (kwh_read (S.MeterSource.read area.now.source.now)) area.now.contracts.now area.now.places.now allotted.now.shares.now allotted.now.allotted.now group.now part }
+    ensures value { result ≡ group_settled (kwh_read (S.MeterSource.read area.now.source.now)) area.now.contracts.now area.now.places.now allotted.now.shares.now allotted.now.allotted.now group.now part }
+    ensures within { result.supplied ≤ 153600000 }
 {
     let plan = group_plan(group, part);
     match group.sort {
@@ -152,7 +155,7 @@ pub fn settle_groups<S: MeterSource>(
     ensures exact { settled.new ≡ groups_settled (kwh_read (S.MeterSource.read area.now.source.now)) area.now.contracts.now area.now.places.now allotted.now.shares.now allotted.now.allotted.now groups.now parts.now }
     ensures small { AllByRecursion (λ g. g.supplied ≤ 153600000) settled.new }
 {
-    for (i, group) in groups.iter().enumerate() {
-        settled[i] = settle_group(area, allotted, group, parts[i]);
+    for (i, (group, part)) in groups.iter().zip(parts).enumerate() {
+        settled[i] = settle_group(area, allotted, group, *part);
     }
 }
