@@ -1,6 +1,5 @@
 -- The output of all plants, one plant on.
-use Rattle.std.proofs.Common.{◌≡◌, ℕ, zero, suc, ◌+◌, ◌<◌, ◌≤◌, Bool, true, false, ◌||◌, eqb, List, [], ◌∷◌, length, get_or, take, ℤ, sym, refl, ap, ◌∙◌, add-one, arith}
-use Rattle.std.proofs.lemmas.List.{take_all}
+use Rattle.std.proofs.Common.{◌≡◌, ℕ, zero, suc, ◌+◌, ◌<◌, Bool, true, false, ◌||◌, eqb, List, [], ◌∷◌, length, get_or, take, ℤ, sym, refl, ap, ◌∙◌, add-one, arith}
 use Rattle.std.proofs.lemmas.Bool.{eqb-true}
 use Rattle.tables.specs.Apart.{has}
 use Rattle.tables.specs.Figures.{figured_if}
@@ -40,6 +39,3 @@ module _ (rule : ℕ → List ℕ → List ℕ) (reads : ℕ → ℕ) (plants : 
         ∙ ap (figured_if (is_at p.meter) (part_at rule p.meter (reads p.meter) shares plans) shares) inv
         ∙ figured_twice (at_one (take n plants)) (is_at p.meter) (at_one (take (n + 1) plants)) (allotted_to rule reads shares plans) (part_at rule p.meter (reads p.meter) shares plans) (allotted_to rule reads shares plans)
         both (λ s e. refl) at_plant shares xs
-
-  pub outputs-all : (n : ℕ) (now' : List ℕ) → length plants ≤ n → now' ≡ outputs rule reads (take n plants) shares plans xs → now' ≡ outputs rule reads plants shares plans xs
-  outputs-all n now' h inv = inv ∙ ap (λ ps. outputs rule reads ps shares plans xs) (take_all n plants h)

@@ -1,5 +1,5 @@
 // What the shares at a plant claim of its output, in the order of their turns.
-ghost use Rattle.std.specs.Prelude.{◌≡◌, ◌≤◌, map, length, ◌==◌};
+ghost use Rattle.std.specs.Prelude.{◌≡◌, ◌≤◌, map, length, sum, ◌==◌, unsigned_abs};
 ghost use Rattle.tables.specs.Listed.{listed};
 ghost use Rattle.allotment.specs.Claims.{claimed, claim_of, claims_at, in_turn};
 ghost use Rattle.allotment.specs.Output.{amounts, turns_at};
@@ -11,7 +11,7 @@ use terms::records::Share;
 // Ranks run from 1 to this, so that a plant has at most so many claims in turn.
 pub const MOST_RANK: u32 = 99;
 
-const MOST_TURNS: usize = 99;
+pub(crate) const MOST_TURNS: usize = MOST_RANK as usize;
 
 const MOST_SHARES: usize = 256;
 
@@ -40,50 +40,56 @@ impl Keyed<OfRank> for Claim {
 fn claim_of(share: &Share, plan: i64) -> Claim
     ensures { result ≡ claim_of share.now plan }
 {
-    let kwh = if plan < 0 { 0 } else { plan as u64 };
     Claim {
         rank: share.rank,
-        kwh,
+        kwh: u64::try_from(plan).unwrap_or(0),
     }
 }
 
-// The claims of the plant's shares, in listed order. Callers are proved to have a plan for each share, and no more shares than a book has.
-fn claims_at(shares: &[Share], plans: &[i64], plant: u32) -> Table<Claim, MOST_SHARES>
-    requires few { length shares.now ≤ 256 }
-    requires room { length plans.now ≡ length shares.now }
-    ensures { listed result ≡ claims_at plant shares.now plans.now }
-{
-    let mut claims: Table<Claim, MOST_SHARES> = Table::new(Claim { rank: 0, kwh: 0 });
-    for i in 0..shares.len() {
-        let share = &shares[i];
-        if share.plant == plant {
-            claims.push(claim_of(share, plans[i]));
+// The shares of a book with a corrected plan beside each: no more of them than a book has, and their plans together in magnitude no more than a division takes.
+#[derive(Clone, Copy)]
+pub struct PlannedShares<'a> {
+    pub shares: &'a [Share],
+    pub plans: &'a [i64],
+    pub ghost few: { length shares.now ≤ 256 },
+    pub ghost room: { length plans.now ≡ length shares.now },
+    pub ghost light: { sum (map unsigned_abs plans.now) ≤ 6144000000 },
+}
+
+impl PlannedShares<'_> {
+    // The claims of the plant's shares, in listed order.
+    fn claims_at(&self, plant: u32) -> Table<Claim, MOST_SHARES>
+        ensures { listed result ≡ claims_at plant self.now.shares.now self.now.plans.now }
+    {
+        let mut claims: Table<Claim, MOST_SHARES> = Table::new(Claim { rank: 0, kwh: 0 });
+        for (share, plan) in self.shares.iter().zip(self.plans) {
+            if share.plant == plant {
+                claims.push(claim_of(share, *plan));
+            }
         }
+        claims
     }
-    claims
+
+    // The claims at the plant, in the order of their turns.
+    pub(crate) fn turns_at(&self, plant: u32) -> Table<Claim, MOST_TURNS>
+        ensures { listed result ≡ turns_at plant self.now.shares.now self.now.plans.now }
+    {
+        in_turn(self.claims_at(plant).as_slice())
+    }
 }
 
 // The claims in the order of their turns: for ranks 1 to 99, the claim of that rank, if there is one.
+#[tactic(auto, unfolding(crate::specs::Claims::turns_from))]
 fn in_turn(claims: &[Claim]) -> Table<Claim, MOST_TURNS>
     ensures { listed result ≡ in_turn claims.now }
 {
     let mut turns: Table<Claim, MOST_TURNS> = Table::new(Claim { rank: 0, kwh: 0 });
-    for rank in 1..MOST_RANK + 1 {
+    for rank in 1..=MOST_RANK {
         if let Some(claim) = find_row(claims, OfRank { rank }) {
             turns.push(claim);
         }
     }
     turns
-}
-
-// The claims at the plant, in the order of their turns. Callers are proved to have a plan for each share, and no more shares than a book has.
-pub(crate) fn turns_at(shares: &[Share], plans: &[i64], plant: u32) -> Table<Claim, MOST_TURNS>
-    requires few { length shares.now ≤ 256 }
-    requires room { length plans.now ≡ length shares.now }
-    ensures { listed result ≡ turns_at plant shares.now plans.now }
-{
-    let claims = claims_at(shares, plans, plant);
-    in_turn(claims.as_slice())
 }
 
 // What the claims take, in their order.

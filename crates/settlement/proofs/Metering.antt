@@ -1,5 +1,5 @@
 -- What the places of an owner used, where each of them has a reading.
-use Rattle.std.proofs.Common.{◌≡◌, ℕ, ◌+◌, ◌*◌, ◌≤◌, Bool, true, false, cond, eqb, List, [], ◌∷◌, map, length, is_some, Some, None, Ok, Err, sum, Option, Result, sym, refl, ap, ◌∙◌, mul-le-mul, arith}
+use Rattle.std.proofs.Common.{◌≡◌, ℕ, ◌+◌, ◌*◌, ◌≤◌, Bool, true, false, cond, eqb, List, [], ◌∷◌, map, length, is_some, Some, None, Ok, sum, Option, Result, sym, refl, ap, ◌∙◌, mul-le-mul, arith}
 use Rattle.std.specs.List.{AllByRecursion}
 use Rattle.std.proofs.lemmas.Bool.{both_ways}
 use Rattle.tables.specs.Keys.{count_if, first_of}
@@ -37,9 +37,11 @@ module _ (read : ℕ → Option ℕ) where
       go true ih = (a.0, ih)
       go false ih = ih
 
-  -- so the demand is what the definition says
-  pub demand-read : (owner : Owner) (places : List Place) (multiplier : ℕ) → AllByRecursion (λ p. is_some (read p.meter) ≡ true) places → demand_of read (meters_of owner places) multiplier ≡ Ok (demand_by (kwh_read read) places multiplier owner)
-  demand-read owner places multiplier a = ap (demand_from multiplier) (all-readings (meters_of owner places) (owned_read owner places a))
+  -- so the demand by the owner's meters is granted, and is what the definition says
+  pub demand-read : (owner : Owner) (places : List Place) (multiplier : ℕ) → AllByRecursion (λ p. is_some (read p.meter) ≡ true) places →
+      (meters : List ℕ) (r : Result ℕ ℕ) → r ≡ demand_of read meters multiplier → meters ≡ meters_of owner places → r ≡ Ok (demand_by (kwh_read read) places multiplier owner)
+  demand-read owner places multiplier a meters r is owned =
+      is ∙ ap (λ ms. demand_of read ms multiplier) owned ∙ ap (demand_from multiplier) (all-readings (meters_of owner places) (owned_read owner places a))
 
   -- no meter reads more than the largest reading of any source
   pub reads_small : ((meter kwh : ℕ) → read meter ≡ Some kwh → kwh ≤ 2000000) → (meter : ℕ) → kwh_read read meter ≤ 2000000
@@ -69,10 +71,6 @@ multiplied-small total multiplier t m = let most : total * multiplier ≤ 153600
 pub demand-small : (reads : ℕ → ℕ) → ((m : ℕ) → reads m ≤ 2000000) → (owner : Owner) (places : List Place) (multiplier : ℕ) → count_if (is_of owner) places ≤ 64 → multiplier ≤ 12000 → demand_by reads places multiplier owner ≤ 153600000
 demand-small reads small owner places multiplier few m =
     multiplied-small (sum (map reads (meters_of owner places))) multiplier (omega (arith, reads_light reads small (meters_of owner places), length_meters owner places)) m
-
--- what no search can answer at once
-pub never_both : (d without : ℕ) → ◌≡◌ {A = Result ℕ ℕ} (Ok d) (Err without) → ⊥
-never_both d without e = let z : ◌≡◌ {A = ℕ} 0 1 = cc in omega arith
 
 -- no contract's multiplier is over the largest
 pub loss_small : (number : ℕ) (contracts : List Contract) → AllByRecursion (λ c. c.multiplier ≤ 12000) contracts → loss_of number contracts ≤ 12000

@@ -1,8 +1,7 @@
 -- What the places of an owner used, by what each meter reads.
-use Rattle.std.specs.Prelude.{◌≡◌, ℕ, ◌≤◌, true, List, map, is_some, Some, None, sum, Option, nat_eq}
-use Rattle.std.specs.List.{AllByRecursion}
+use Rattle.std.specs.Prelude.{ℕ, List, map, Some, None, sum, Option, nat_eq}
 use Rattle.tables.specs.Carried.{carried_if}
-use Rattle.tables.specs.Keys.{count_if, first_of}
+use Rattle.tables.specs.Keys.{first_of}
 use Rattle.metering.specs.Demand.{multiplied}
 use Rattle.metering.specs.Readings.{kwh_of}
 use Rattle.terms.specs.Owners.{is_of}
@@ -29,9 +28,3 @@ multiplier_of (Some c) = c.multiplier
 
 abbrev pub loss_of : ℕ → List Contract → ℕ
 loss_of number contracts = multiplier_of (first_of (λ (c : Contract). nat_eq c.number number) contracts)
-
--- What the contracts and places of a book keep: multipliers of at most 12,000, at most 64 places an owner, and a reading for every place.
-pub record Metered (read : ℕ → Option ℕ) (contracts : List Contract) (places : List Place) : Type 0 where
-  pub multipliers : AllByRecursion (λ c. c.multiplier ≤ 12000) contracts
-  pub allowed : (owner : Owner) → count_if (is_of owner) places ≤ 64
-  pub known : AllByRecursion (λ p. is_some (read p.meter) ≡ true) places

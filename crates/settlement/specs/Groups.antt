@@ -60,11 +60,8 @@ abbrev pub SoundSort : GroupSort → Type 0
 SoundSort Generation = Unit {0}
 SoundSort (Curtailing c) = (c.plan ≤ c.baseline) × (c.baseline ≤ 2000000)
 
--- What a book keeps of groups and of what was worked out for them and their shares.
-pub record Groupable (groups : List Group) (parts : List ℤ) (shares : List Share) (allotted : List ℕ) : Type 0 where
+-- What a book keeps of groups and of what was worked out for them.
+pub record Groupable (groups : List Group) (parts : List ℤ) : Type 0 where
   pub sound : AllByRecursion (λ g. SoundSort g.sort) groups
   pub parts_room : length parts ≡ length groups
   pub parts_small : AllByRecursion (λ z. unsigned_abs z ≤ 128000000) parts
-  pub few_shares : length shares ≤ 256
-  pub output_room : length allotted ≡ length shares
-  pub output_small : AllByRecursion (λ x. x ≤ 2000000) allotted

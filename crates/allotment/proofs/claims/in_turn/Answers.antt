@@ -1,7 +1,7 @@
 use Rattle.std.proofs.Common.{length, ap, ◌∙◌, arith}
 use Rattle.std.proofs.lemmas.List.{length_push}
 use Rattle.tables.specs.Listed.{listed}
-use Rattle.allotment.proofs.Claiming.{turn-some, turn-none, turns-all}
+use Rattle.allotment.proofs.Claiming.{turn-some, turn-none}
 use Rattle.allotment.proofs.claims.in_turn.Goals as goal
 use Rattle.allotment.proofs.claims.in_turn.Goals.{in-Some, in_default}
 
@@ -22,6 +22,3 @@ loop-rank-preserved c =
             turn-none claims rank c.loop-rank-test.true out _ c.loop-rank.invariant.1 w.in_default.ensures same,
           )
     ]
-
-pub returns : goal.returns
-returns c = turns-all c.args.claims.now c.loop-rank.rank (listed c.loop-rank.turns) c.loop-rank-test.false c.loop-rank.invariant.1

@@ -1,21 +1,11 @@
-use Rattle.std.proofs.Common.{length, sum, sym, ap, ◌∙◌, arith}
-use lib.ListN.{length-map}
-use Rattle.allotment.specs.declared.claims.Claim.{Claim}
+use Rattle.std.proofs.Common.{sum, ap, ◌∙◌, arith}
 use Rattle.allotment.specs.Output.{amounts}
 use Rattle.allotment.proofs.Turns.{turns_stay_within}
 use Rattle.allotment.proofs.output.allot_plant.Goals as goal
 
-pub allot_turns-requires : goal.allot_turns-requires
-allot_turns-requires g c =
-    let first = c.as_slice.ensures ∙ c.turns_at-turns.ensures in
-    let turns = c.as_slice-2.ensures ∙ c.turns_at-turns.ensures in
-    let taken = c.as_slice-3.ensures ∙ c.amounts_of-claims.ensures in
-    let within = turns_stay_within c.args.plant c.args.shares.now c.args.plans.now in
-    let long = ap length taken ∙ length-map c.as_slice.result.now (λ (x : Claim). x.kwh) in
-    record {
-      few = omega (arith, long, ap length first, within.few);
-      each = long ∙ ap length (first ∙ sym turns);
-      light = omega (arith, ap sum (taken ∙ ap amounts first), within.light, c.requires.light);
-      small = c.requires.small;
-      figures = c.requires.figures;
-    }
+pub divide_among-requires-clause-light : goal.divide_among-requires-clause-light
+divide_among-requires-clause-light g c =
+    let planned = c.args.planned.now in
+    let within = turns_stay_within c.args.plant planned.shares.now planned.plans.now in
+    let taken = c.as_slice-2.ensures ∙ c.amounts_of-claims.ensures ∙ ap amounts (c.as_slice.ensures ∙ c.turns_at-turns.ensures) in
+    omega (arith, ap sum taken, within.light, planned.light)
