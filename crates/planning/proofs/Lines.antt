@@ -36,6 +36,13 @@ module _ {T : Type 0} (owned known : T → ℕ) (owner : ℕ) (line : ℕ → �
     lines_no out out' all other same inv =
         ap (λ q. q ++ rest n) same ∙ sym (ap (λ q. out ++ q) (lines_at ∙ cond-false _ _ _ (ne_eqb (owned x) owner other))) ∙ inv
 
+  -- the same turn where the claims still to show are p and then qs
+  pub lines_next : (rows : List T) (i : ℕ) (x : T) → i < length rows → x ≡ get_or rows i x → (figures : List ℤ) → i < length figures → (ps qs : List ℕ) (p : ℕ) → ps ≡ p ∷ qs →
+      (out out' all : List Working) (v : Working) → owned x ≡ owner → v ≡ line (known x) p (get_or figures i (pos 0)) → out' ≡ out ++ v ∷ [] →
+      out ++ workings owned known owner line (drop i rows) ps (drop i figures) ≡ all → out' ++ workings owned known owner line (drop (i + 1) rows) qs (drop (i + 1) figures) ≡ all
+  lines_next rows i x within read figures k ps qs p e out out' all v mine is pushed inv =
+      lines_yes rows i x within read (p ∷ qs) 0 figures k out out' all v mine is pushed (ap (λ q. out ++ workings owned known owner line (drop i rows) q (drop i figures)) (sym e) ∙ inv)
+
   pub lines-all : (rows : List T) (i : ℕ) (claims : List ℕ) (figures : List ℤ) (out all : List Working) → length rows ≤ i →
       out ++ workings owned known owner line (drop i rows) claims figures ≡ all → out ≡ all
   lines-all rows i claims figures out all h inv =

@@ -1,10 +1,9 @@
 // The groups and shares of a book.
-ghost use Rattle.std.specs.Prelude.{◌≡◌, ◌≤◌, length};
+ghost use Rattle.std.specs.Prelude.{◌≤◌, length};
 ghost use Rattle.std.specs.List.{AllByRecursion};
 ghost use Rattle.std.proofs.Props.{props};
 ghost use Rattle.terms.specs.Plans.{plan_of};
 ghost use Rattle.sharing.specs.Levels.{Apart, Apart-prop};
-ghost use Rattle.planning.specs.Plans.{Limits};
 
 use terms::records::{Group, Share};
 
@@ -12,22 +11,11 @@ use terms::records::{Group, Share};
 // at most 256 shares, and plans of at most 2,000,000 kWh.
 #[derive(Clone, Copy)]
 pub struct Holdings<'a> {
-    pub(crate) groups: &'a [Group],
-    pub(crate) shares: &'a [Share],
-    ghost few_groups: { length groups.now ≤ 96 },
-    ghost few_shares: { length shares.now ≤ 256 },
-    ghost apart: { Apart (λ g. g.number) groups.now } by { Apart-prop _ _ },
-    ghost plans: { AllByRecursion (λ g. plan_of g ≤ 2000000) groups.now } by { Prim.hlevel props },
-    ghost planned: { AllByRecursion (λ s. s.planned ≤ 2000000) shares.now } by { Prim.hlevel props },
-}
-
-impl<'a> Holdings<'a> {
-    // These groups and shares. Callers are proved to keep the limits of a book.
-    pub fn new(groups: &'a [Group], shares: &'a [Share]) -> Holdings<'a>
-        requires { Limits groups.now shares.now }
-        ensures groups { result.groups.now ≡ groups.now }
-        ensures shares { result.shares.now ≡ shares.now }
-    {
-        Holdings { groups, shares }
-    }
+    pub groups: &'a [Group],
+    pub shares: &'a [Share],
+    pub ghost few_groups: { length groups.now ≤ 96 },
+    pub ghost few_shares: { length shares.now ≤ 256 },
+    pub ghost apart: { Apart (λ g. g.number) groups.now } by { Apart-prop _ _ },
+    pub ghost plans: { AllByRecursion (λ g. plan_of g ≤ 2000000) groups.now } by { Prim.hlevel props },
+    pub ghost planned: { AllByRecursion (λ s. s.planned ≤ 2000000) shares.now } by { Prim.hlevel props },
 }

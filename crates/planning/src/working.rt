@@ -173,14 +173,9 @@ pub fn work_out_groups(
     ensures named { map (λ (w : Working). w.number) (listed result.lines) ≡ groups_of contract holdings.now.groups.now }
     ensures explained { Explains deemed (group_claims contract holdings.now.groups.now holdings.now.shares.now) (listed result.lines) result.together }
 {
-    let claims = gather_heads(holdings.groups, holdings.shares, contract);
-    work_out(
-        holdings.groups,
-        contract,
-        deemed,
-        claims.as_slice(),
-        group_plans,
-    )
+    let groups = holdings.groups;
+    let claims = gather_heads(groups, holdings.shares, contract);
+    work_out(groups, contract, deemed, claims.as_slice(), group_plans)
 }
 
 // Works out how a group's plan was divided among its shares. Callers are proved to hand over plans that were divided so.

@@ -20,13 +20,12 @@ use Rattle.terms.specs.declared.records.Place.{Place}
 use Rattle.terms.specs.declared.records.Plant.{Plant}
 use Rattle.terms.specs.declared.records.Share.{Share}
 use Rattle.trades.specs.Beyond.{beyond_area}
-use Rattle.trades.specs.Trades.{traded}
+use Rattle.trades.specs.Trades.{net_of, traded}
 use Rattle.trades.proofs.Cancelling.{trades_cancel}
 use Rattle.curtailment.proofs.Sums.{methods_agree_in_sum}
 use Rattle.division.specs.Terms.{Keeps}
 use Rattle.sharing.specs.Owners.{count_of, added_up}
-use Rattle.sharing.proofs.Owning.{count_of-count_if, figures_of-figures_if, added_up-added_by}
-use Rattle.planning.specs.All.{own_of, PlansCorrected}
+use Rattle.planning.specs.All.{PlansCorrected}
 use Rattle.planning.specs.Plans.{plan_from, plans_of_groups}
 use Rattle.planning.proofs.Sums.{groups-add_up}
 use Rattle.allotment.specs.Output.{allotted_to, is_at}
@@ -75,7 +74,7 @@ given_for c z = cond (is_retail c.kind && eqb z.retailer c.number) (pos z.suppli
 
 -- a retail contract's sales less purchases
 abbrev retail_own : List Line → List ℕ → Contract → ℤ
-retail_own lines figures c = cond (is_retail c.kind) (own_of c.number lines figures) (pos 0)
+retail_own lines figures c = cond (is_retail c.kind) (net_of c.number lines figures) (pos 0)
 
 -- groups: imbalance and supplied together are the part and the demand, less the output
 module _ (reads : ℕ → ℕ) (contracts : List Contract) (places : List Place) (shares : List Share) (allotted : List ℕ) where
@@ -149,7 +148,7 @@ supplied-all contracts settled once =
 module _ (reads : ℕ → ℕ) (places : List Place) (lines : List Line) (figures : List ℕ) (settled : List SettledGroup) where
   contract_even : (k : Kind) (c : Contract) →
       (settled_in reads places lines figures settled k c).imbalance
-      ≡ pos (contract_demand reads places k c) +ℤ (cond (is_retail k) (pos (supplied_to c.number settled)) (pos 0) +ℤ cond (is_retail k) (own_of c.number lines figures) (pos 0))
+      ≡ pos (contract_demand reads places k c) +ℤ (cond (is_retail k) (pos (supplied_to c.number settled)) (pos 0) +ℤ cond (is_retail k) (net_of c.number lines figures) (pos 0))
   contract_even Generation c = refl
   contract_even Retail c =
       retail_even (contract_demand reads places Retail c) (supplied_to c.number settled) (pos (traded Purchase c.number lines figures)) (pos (traded Sale c.number lines figures))
@@ -205,20 +204,19 @@ module _ (rule : ℕ → List ℕ → List ℕ) (keeps : Keeps rule) (reads : �
 module _ (first second : ℕ → List ℕ → List ℕ) (keeps : Keeps first) (f : Filed) (w : WellFiled f) (gb parts sb plans : List ℤ) (l : length parts ≡ length f.groups)
     (p : PlansCorrected first second f.contracts f.lines (trades f) f.groups f.shares gb parts sb plans) where
   abbrev own_trades : Contract → ℤ
-  own_trades c = own_of c.number f.lines (trades f)
+  own_trades c = net_of c.number f.lines (trades f)
 
   abbrev parts_of : Contract → ℤ
   parts_of c = added_by (λ x. x) (figures_if (λ (g : Group). eqb g.contract c.number) f.groups parts)
 
   -- which is what the plans of its groups come to
   parts_are : (c : Contract) → parts_of c ≡ added_up (plans_of_groups c.number f.groups parts)
-  parts_are c =
-      sym (added_up-added_by (plans_of_groups c.number f.groups parts) ∙ ap (λ zs. added_by (λ x. x) zs) (figures_of-figures_if (λ (g : Group). g.contract) c.number f.groups parts))
+  parts_are c = refl
 
   contract_parts : (k : Kind) (c : Contract) → Grouped k (count_of (λ (g : Group). g.contract) c.number f.groups) → (1 ≤ count_of (λ (g : Group). g.contract) c.number f.groups → parts_of c ≡ own_trades c) →
       parts_of c +ℤ cond (is_retail k) (own_trades c) (pos 0) ≡ own_trades c
   contract_parts Generation c some adds = and_none (parts_of c) (own_trades c) (adds some)
-  contract_parts Retail c none adds = none_else (parts_of c) (own_trades c) (ap (λ zs. added_by (λ x. x) zs) (figures-none (λ (g : Group). eqb g.contract c.number) f.groups parts (sym (count_of-count_if (λ (g : Group). g.contract) c.number f.groups) ∙ none)))
+  contract_parts Retail c none adds = none_else (parts_of c) (own_trades c) (ap (λ zs. added_by (λ x. x) zs) (figures-none (λ (g : Group). eqb g.contract c.number) f.groups parts none))
   contract_parts Negawatt c some adds = and_none (parts_of c) (own_trades c) (adds some)
 
   parts_and_retail : added_by (λ x. x) parts +ℤ added_by (retail_own f.lines (trades f)) f.contracts ≡ pos (beyond_area Sale f.lines) -ℤ pos (beyond_area Purchase f.lines)

@@ -2,7 +2,6 @@
 ghost use Rattle.std.specs.Prelude.{◌≡◌, ◌≤◌, length};
 ghost use Rattle.std.specs.List.{AllByRecursion};
 ghost use Rattle.std.proofs.Props.{props};
-ghost use Rattle.planning.specs.All.{Trading};
 ghost use Rattle.settlement.specs.Demand.{kwh_read};
 ghost use Rattle.settlement.specs.Retailers.{supplied_to, retail_settled, retail_supplied, deemed_demand_of, contract_settled, contracts_settled};
 
@@ -12,8 +11,8 @@ use curtailment::retail::retail_imbalance;
 use metering::source::MeterSource;
 use tables::totals::{Whose, total};
 use terms::codes::{Kind, OwnerKind};
-use terms::records::{Contract, Line, Owner};
-use trades::balances::balance_of;
+use terms::records::{Contract, Owner};
+use trades::corrected::CorrectedLines;
 
 // A settled retail contract: the kWh supplied, and its imbalance, where positive is shortage. Of any other contract both are 0: its groups are settled.
 #[derive(Clone, Copy)]
@@ -56,19 +55,17 @@ fn supplied_by<S: MeterSource>(area: &Area<S>, groups: &SettledGroups, contract:
 // One contract: a retail contract by what it supplied, any other not at all.
 fn settle_contract<S: MeterSource>(
     area: &Area<S>,
-    lines: &[Line],
-    figures: &[u32],
+    trades: &CorrectedLines,
     groups: &SettledGroups,
     contract: &Contract,
 ) -> SettledContract
-    requires multiplier { contract.now.multiplier ≤ 12000 }
-    requires trading { Trading lines.now figures.now }
-    ensures { result ≡ contract_settled (kwh_read (S.MeterSource.read area.now.source.now)) area.now.places.now lines.now figures.now groups.now.groups.now contract.now }
+    requires { contract.now.multiplier ≤ 12000 }
+    ensures { result ≡ contract_settled (kwh_read (S.MeterSource.read area.now.source.now)) area.now.places.now trades.now.lines.now trades.now.figures.now groups.now.groups.now contract.now }
 {
     match contract.kind {
         Kind::Retail => {
             let supplied = supplied_by(area, groups, contract);
-            let balance = balance_of(lines, figures, contract.number);
+            let balance = trades.balance_of(contract.number);
             SettledContract {
                 measured: supplied,
                 imbalance: retail_imbalance(supplied, balance.deemed_demand()),
@@ -84,16 +81,14 @@ fn settle_contract<S: MeterSource>(
 // Every contract of the area. Callers are proved to stay inside the limits of a book, and have seen to it that every place's meter has a reading.
 pub fn settle_contracts<S: MeterSource>(
     area: &Area<S>,
-    lines: &[Line],
-    figures: &[u32],
+    trades: &CorrectedLines,
     groups: &SettledGroups,
     settled: &mut [SettledContract],
 )
-    requires trading { Trading lines.now figures.now }
-    requires room { length settled.old ≡ length area.now.contracts.now }
-    ensures { settled.new ≡ contracts_settled (kwh_read (S.MeterSource.read area.now.source.now)) area.now.places.now lines.now figures.now groups.now.groups.now area.now.contracts.now }
+    requires { length settled.old ≡ length area.now.contracts.now }
+    ensures { settled.new ≡ contracts_settled (kwh_read (S.MeterSource.read area.now.source.now)) area.now.places.now trades.now.lines.now trades.now.figures.now groups.now.groups.now area.now.contracts.now }
 {
     for (i, contract) in area.contracts.iter().enumerate() {
-        settled[i] = settle_contract(area, lines, figures, groups, contract);
+        settled[i] = settle_contract(area, trades, groups, contract);
     }
 }

@@ -3,7 +3,7 @@ ghost use Rattle.std.specs.Prelude.{◌≡◌, ℕ, ◌≤◌, length};
 ghost use Rattle.std.specs.List.{AllByRecursion};
 ghost use Rattle.std.proofs.Props.{props};
 ghost use Rattle.terms.specs.declared.codes.Direction.TheVariants.{Sale, Purchase};
-ghost use Rattle.trades.specs.Trades.{traded, lines_of, Trading};
+ghost use Rattle.trades.specs.Trades.{traded, lines_of};
 
 use crate::balances::balance_of;
 use terms::balance::Balance;
@@ -13,23 +13,14 @@ use terms::records::Line;
 // a figure for each line, of at most 2,000,000 kWh, and at most 64 lines a contract.
 #[derive(Clone, Copy)]
 pub struct CorrectedLines<'a> {
-    lines: &'a [Line],
-    figures: &'a [u32],
-    ghost room: { length figures.now ≡ length lines.now },
-    ghost small: { AllByRecursion (λ f. f ≤ 2000000) figures.now } by { Prim.hlevel props },
-    ghost allowed: { (contract : ℕ) → lines_of contract lines.now ≤ 64 },
+    pub lines: &'a [Line],
+    pub figures: &'a [u32],
+    pub ghost room: { length figures.now ≡ length lines.now },
+    pub ghost small: { AllByRecursion (λ f. f ≤ 2000000) figures.now } by { Prim.hlevel props },
+    pub ghost allowed: { (contract : ℕ) → lines_of contract lines.now ≤ 64 },
 }
 
-impl<'a> CorrectedLines<'a> {
-    // The lines with these figures. Callers are proved to keep the limits of a book.
-    pub fn new(lines: &'a [Line], figures: &'a [u32]) -> CorrectedLines<'a>
-        requires { Trading lines.now figures.now }
-        ensures lines { result.lines.now ≡ lines.now }
-        ensures figures { result.figures.now ≡ figures.now }
-    {
-        CorrectedLines { lines, figures }
-    }
-
+impl CorrectedLines<'_> {
     // The contract's corrected sales and purchases, and what they leave to its own generation.
     pub fn balance_of(&self, contract: u32) -> Balance
         ensures sold { result.sold ≡ traded Sale contract self.now.lines.now self.now.figures.now }
