@@ -133,6 +133,7 @@ impl Filings {
     }
 
     // A share: a generation group, a plant, a rank and the planned kWh. A known share gets another rank and plan.
+    #[tactic(auto, using(crate::proofs::Room::room_left))]
     pub(crate) fn file_share(
         &mut self,
         group: u32,

@@ -13,6 +13,7 @@ use terms::refusal::Refusal;
 
 impl Filings {
     // A line or a result: its codes, and the planned or the agreed kWh.
+    #[tactic(auto, using(crate::proofs::Room::room_left))]
     fn file_figure(&mut self, codes: LineCodes, figure: Figure) -> Result<(), Refusal>
         ensures { Judges (refusal_at self.old codes (kwh_of figure) (key_for figure codes)) self.old (set_at self.old figure (key_for figure codes)) self.new result }
     {
