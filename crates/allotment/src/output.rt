@@ -68,6 +68,7 @@ pub fn allot_plant<R: DivisionRule>(
 {
     let turns = planned.turns_at(plant);
     let claims = amounts_of(turns.as_slice());
+    // the engine has no heap: a part for each claim, in an array of as many places as a plant has turns
     let mut space = [0; MOST_TURNS];
     let parts = &mut space[..claims.len()];
     divide_among(rule, reading, claims.as_slice(), parts);
