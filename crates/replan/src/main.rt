@@ -7,6 +7,7 @@ ghost use Rattle.std.proofs.Props.{props};
 ghost use Rattle.terms.specs.Plans.{plan_of};
 
 use division::pro_rata::ProRata;
+use planning::holdings::Holdings;
 use planning::plan::correct_plan;
 use planning::working::{Worked, work_out_groups, work_out_shares};
 use std::io;
@@ -66,20 +67,23 @@ fn replan(rt: HostRuntime, example: &Example) -> io::Result<()> {
     let mut group_plans = [0; 2];
     let mut share_plans = vec![in rt.alloc(); 0; shares.len()]?;
     let share_plans = share_plans.as_mut_slice();
+    let holdings = Holdings {
+        groups: &groups,
+        shares,
+    };
     let balance = Balance::of(example.sold, example.bought);
     correct_plan(
         &ProRata,
         &ProRata,
         CONTRACT,
         &balance,
-        &groups,
-        shares,
+        &holdings,
         &mut group_plans,
         share_plans,
     );
     println!(rt; "{}", example.title)?;
     println!(rt; "{balance}")?;
-    let worked = work_out_groups(&groups, shares, CONTRACT, balance.own(), &group_plans);
+    let worked = work_out_groups(&holdings, CONTRACT, balance.own(), &group_plans);
     show(rt, "group", &worked)?;
     for (group, plan) in groups.iter().zip(&group_plans) {
         println!(rt; "group {}, plan {plan}", group.number)?;

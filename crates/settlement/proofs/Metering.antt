@@ -4,6 +4,7 @@ use Rattle.std.specs.List.{AllByRecursion}
 use Rattle.std.proofs.lemmas.Bool.{both_ways}
 use Rattle.tables.specs.Keys.{count_if, first_of}
 use Rattle.tables.proofs.Carrying.{sum-cons}
+use Rattle.metering.specs.declared.demand.Unread.{Unread}
 use Rattle.metering.specs.Readings.{kwh_of}
 use Rattle.metering.specs.Demand.{before, readings, multiplied, demand_of, demand_from}
 use Rattle.terms.specs.Owners.{is_of}
@@ -39,7 +40,7 @@ module _ (read : ℕ → Option ℕ) where
 
   -- so the demand by the owner's meters is granted, and is what the definition says
   pub demand-read : (owner : Owner) (places : List Place) (multiplier : ℕ) → AllByRecursion (λ p. is_some (read p.meter) ≡ true) places →
-      (meters : List ℕ) (r : Result ℕ ℕ) → r ≡ demand_of read meters multiplier → meters ≡ meters_of owner places → r ≡ Ok (demand_by (kwh_read read) places multiplier owner)
+      (meters : List ℕ) (r : Result ℕ Unread) → r ≡ demand_of read meters multiplier → meters ≡ meters_of owner places → r ≡ Ok (demand_by (kwh_read read) places multiplier owner)
   demand-read owner places multiplier a meters r is owned =
       is ∙ ap (λ ms. demand_of read ms multiplier) owned ∙ ap (demand_from multiplier) (all-readings (meters_of owner places) (owned_read owner places a))
 
