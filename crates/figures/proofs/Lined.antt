@@ -5,8 +5,7 @@ use Rattle.tables.proofs.Gathering.{count_few}
 use Rattle.terms.specs.declared.partner.Partner.{Partner}
 use Rattle.terms.specs.declared.partner.Partner.TheVariants.{Exchange, Outside, Contract}
 use Rattle.terms.specs.declared.records.Line.{Line}
-use Rattle.trades.specs.Trades.{corrected, corrected_with, lines_of}
-use Rattle.planning.specs.All.{Trading}
+use Rattle.trades.specs.Trades.{corrected, corrected_with, lines_of, Trading}
 use Rattle.figures.specs.Rows.{line_fine}
 
 corrected-small : (p : Partner) (all : List Line) (l : Line) → line_fine l → corrected_with p all l ≤ 2000000

@@ -20,14 +20,15 @@ use Rattle.sharing.specs.Levels.{claim_of}
 use Rattle.sharing.proofs.Steps.{length-claims}
 use Rattle.sharing.proofs.Placing.{own-figure, some-row}
 use Rattle.planning.specs.Plans.{group_claims}
-use Rattle.planning.specs.All.{Trading, own_of, PlansCorrected}
+use Rattle.planning.specs.All.{PlansCorrected}
+use Rattle.trades.specs.Trades.{net_of, Trading}
 use Rattle.planning.proofs.Deemed.{apart-small}
 use Rattle.figures.specs.Rows.{homed}
 
 abbrev pub Small : ℤ → Type 0
 Small z = nat_abs z ≤ 128000000
 
-own-small : (c : ℕ) (ls : List Line) (fs : List ℕ) → Trading ls fs → nat_abs (own_of c ls fs) ≤ 128000000
+own-small : (c : ℕ) (ls : List Line) (fs : List ℕ) → Trading ls fs → nat_abs (net_of c ls fs) ≤ 128000000
 own-small c ls fs t =
     apart-small (traded Sale c ls fs) (traded Purchase c ls fs) 128000000 (traded-light Sale c ls fs (t.allowed c) t.small) (traded-light Purchase c ls fs (t.allowed c) t.small)
 
@@ -44,7 +45,7 @@ module _ (first second : ℕ → List ℕ → List ℕ) (keeps : Keeps first) (c
       let claimed : Group → ℕ = claim_of (λ (g : Group). claim_in g.sort) (λ (g : Group). g.number) (λ (s : Share). s.group) (λ (s : Share). s.planned) shares in
       let some : 1 ≤ length (group_claims c.number groups shares) = omega (arith, some-row (λ (g : Group). g.contract) c.number groups k g h r o, length-claims (λ (g : Group). g.contract) c.number claimed groups) in
       own-figure (λ (g : Group). g.contract) c.number Small groups ga room
-      (subst (AllByRecursion Small) (sym (done.group_parts j c l e)) (signed_small first keeps (own_of c.number lines figures) (group_claims c.number groups shares) some (own-small c.number lines figures trading)))
+      (subst (AllByRecursion Small) (sym (done.group_parts j c l e)) (signed_small first keeps (net_of c.number lines figures) (group_claims c.number groups shares) some (own-small c.number lines figures trading)))
       k g h r o
 
 one_of : (n : ℕ) → homed n → (n ≡ 11) ⊎ ((n ≡ 12) ⊎ (n ≡ 13))

@@ -125,7 +125,7 @@ fn show_source<S: MeterSource>(rt: HostRuntime, source: &S, draws: &mut Draws) -
     )?;
     match metered_demand(source, &meters, owner.multiplier) {
         Ok(demand) => print!(rt; ": demand {demand}"),
-        Err(meter) => print!(rt; ": without {meter}"),
+        Err(unread) => print!(rt; ": without {}", unread.meter),
     }
 }
 

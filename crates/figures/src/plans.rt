@@ -9,6 +9,7 @@ use crate::draws::{Draws, DrawsRows};
 use crate::rule::Rule;
 use crate::trading::{Trades, draw_most};
 use planning::all::correct_plans;
+use planning::holdings::Holdings;
 use planning::plan::group_plan;
 use std::io;
 use terms::codes::{Kind, Method};
@@ -178,16 +179,18 @@ pub fn case(rt: HostRuntime, case: u64) -> io::Result<()> {
     let groups = pattern.groups(&mut draws);
     let count = 3 + draws.below(8) as usize;
     let shares = pattern.rows(rt.alloc(), count, &mut draws)?;
+    let holdings = Holdings {
+        groups: &groups,
+        shares: shares.as_slice(),
+    };
     let mut parts = [0; GROUPS];
     let mut plans = vec![in rt.alloc(); 0; count]?;
     correct_plans(
         &first,
         &second,
         &contracts,
-        &trades.lines,
-        &trades.figures,
-        &groups,
-        &shares,
+        &trades.corrected(),
+        &holdings,
         &mut parts,
         &mut plans,
     );

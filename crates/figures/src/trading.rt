@@ -11,7 +11,7 @@ use std::{fmt, io};
 use terms::codes::Direction;
 use terms::partner::Partner;
 use terms::records::Line;
-use trades::balances::balance_of;
+use trades::corrected::CorrectedLines;
 use trades::lines::correct_lines;
 
 // So many keys can be drawn.
@@ -174,10 +174,22 @@ impl Trades {
         Ok(Trades { lines, figures })
     }
 
+    // The lines with their figures, as the engine takes them.
+    pub fn corrected(&self) -> CorrectedLines<'_>
+        ensures lines { result.lines.now ≡ self.now.lines.items }
+        ensures figures { result.figures.now ≡ self.now.figures.items }
+    {
+        CorrectedLines {
+            lines: self.lines.as_slice(),
+            figures: self.figures.as_slice(),
+        }
+    }
+
     // What each contract sold and bought.
     fn show_balances(&self, rt: HostRuntime) -> io::Result<()> {
+        let corrected = self.corrected();
         for contract in 11..14 {
-            let balance = balance_of(&self.lines, &self.figures, contract);
+            let balance = corrected.balance_of(contract);
             print!(rt;
                 "; contract {contract} sold {} bought {}",
                 balance.sold(),

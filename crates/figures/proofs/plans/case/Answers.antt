@@ -6,32 +6,26 @@ use Rattle.terms.specs.Plans.{plan_of}
 use Rattle.division.specs.Terms.{Keeps}
 use Rattle.division.proofs.Signs.{back-small}
 use Rattle.figures.specs.Rules.{parts_by, length-parts_by, sum-parts_by}
-use Rattle.figures.proofs.Lined.{trading}
 use Rattle.figures.proofs.Parted.{Small, all-parts-small}
 use Rattle.figures.proofs.plans.case.Goals as goal
 
-pub correct_plans-requires-clause-trading : goal.correct_plans-requires-clause-trading
-correct_plans-requires-clause-trading c =
-    let t = c.in_ok-trades.trades in
-    trading c.deref.ensures.value c.deref-2.ensures.value t.few t.room t.small
-
-pub correct_plans-requires-clause-limits : goal.correct_plans-requires-clause-limits
-correct_plans-requires-clause-limits c = record {
+pub invariant_of-holdings : goal.invariant_of-holdings
+invariant_of-holdings c = record {
   few_groups = search rules;
-  few_shares = omega (arith, ap length c.deref-3.ensures.value, c.in_ok-shares.ensures.count);
+  few_shares = omega (arith, ap length c.as_slice.ensures.value, c.in_ok-shares.ensures.count);
   apart = c.groups-groups.ensures.apart;
   plans = c.groups-groups.ensures.plans;
-  planned = subst (λ (xs : List Share). AllByRecursion (λ s. s.planned ≤ 2000000) xs) (sym c.deref-3.ensures.value) c.in_ok-shares.ensures.fine;
+  planned = subst (λ (xs : List Share). AllByRecursion (λ s. s.planned ≤ 2000000) xs) (sym c.as_slice.ensures.value) c.in_ok-shares.ensures.fine;
 }
 
 pub loop-group-init : goal.loop-group-init
 loop-group-init c =
-    let t = c.in_ok-trades.trades in
+    let t = c.corrected.result in
     let first = c.draw-first.result in
     let keeps : Keeps (parts_by first) = record { each = length-parts_by first; all = sum-parts_by first } in
     let small : AllByRecursion Small c.correct_plans.new.group_parts =
     all-parts-small (parts_by first) (parts_by c.draw-second.result) keeps c.contract.result c.contract-2.result c.contract-3.result c.contract.ensures c.contract-2.ensures c.contract-3.ensures
-    c.deref.result.now c.deref-2.result.now (trading c.deref.ensures.value c.deref-2.ensures.value t.few t.room t.small) c.groups-groups.result c.deref-3.result.now c.groups-groups.ensures.homes
+    t.lines.now t.figures.now (record { room = t.room; small = t.small; allowed = t.allowed }) c.groups-groups.result c.as_slice.result.now c.groups-groups.ensures.homes
     _ c.correct_plans.new.group_parts c.deref_mut.result.now c.correct_plans.new.share_plans (omega (arith, c.correct_plans.auto.group_parts)) c.correct_plans.ensures in
     let groups : c.into_iter-group-iterator.result.a.rest.now ≡ c.groups-groups.result = cc in
     let parts : c.into_iter-group-iterator.result.b.rest.now ≡ c.correct_plans.new.group_parts = cc in
