@@ -1,7 +1,6 @@
 -- The corrected plans of every contract.
-use Rattle.std.specs.Prelude.{◌≡◌, ℕ, ◌<◌, ◌≤◌, List, length, ℤ, pos, ◌-ℤ◌, ◌≢◌, slice_index_or, unsigned_abs}
+use Rattle.std.specs.Prelude.{◌≡◌, ℕ, ◌<◌, List, length, ℤ, pos, ◌≢◌, slice_index_or, unsigned_abs}
 use Rattle.std.specs.List.{AllByRecursion}
-use Rattle.terms.specs.declared.codes.Direction.TheVariants.{Sale, Purchase}
 use Rattle.terms.specs.declared.records.Contract.{Contract}
 use Rattle.terms.specs.declared.records.Group.{Group}
 use Rattle.terms.specs.declared.records.Line.{Line}

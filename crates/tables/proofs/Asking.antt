@@ -1,5 +1,5 @@
 -- What an `Option` tells that was asked for with an error at hand.
-use Rattle.std.proofs.Common.{◌≡◌, ℕ, Some, None, Ok, Err, sym, refl, ap, arith}
+use Rattle.std.proofs.Common.{◌≡◌, ℕ, Some, None, Ok, Err, refl, ap, arith}
 use Rattle.std.specs.Prelude.{Option, ok_or}
 
 pub ok_or-Ok : {T E : Type 0} (o : Option T) (e : E) (t : T) → ok_or o e ≡ Ok t → o ≡ Some t

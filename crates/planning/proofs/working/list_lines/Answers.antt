@@ -1,4 +1,4 @@
-use Rattle.std.proofs.Common.{rules, refl, ◌≡◌, ◌≤◌, ◌<◌, ℕ, ◌∷◌, ◌++◌, length, drop, get_or, ℤ, pos, sum, sym, ap, subst, ◌∙◌, arith, w64, SFits, to_z, of_z}
+use Rattle.std.proofs.Common.{rules, refl, ◌≡◌, ◌≤◌, ◌∷◌, ◌++◌, length, drop, get_or, pos, sum, sym, ap, subst, ◌∙◌, arith, w64, SFits, to_z, of_z}
 use Rattle.std.specs.Slice.Iter.{iter_rest}
 use Rattle.std.proofs.lemmas.List.{length_push}
 use Rattle.std.proofs.lemmas.Slice.Zip.{zip_turn}
