@@ -5,7 +5,7 @@ ghost use Rattle.planning.specs.Plans.{PlanCorrected, group_plan};
 
 use crate::holdings::Holdings;
 use division::DivisionRule;
-use sharing::levels::share_out_levels;
+use sharing::levels::{Levels, share_out_levels};
 use terms::balance::Balance;
 use terms::records::{Group, GroupSort};
 
@@ -26,11 +26,14 @@ pub fn correct_plan<A: DivisionRule, B: DivisionRule>(
     ensures { PlanCorrected (A.DivisionRule.parts first.now) (B.DivisionRule.parts second.now) contract (pos balance.now.sold -ℤ pos balance.now.bought)
         holdings.now.groups.now holdings.now.shares.now group_plans.old group_plans.new share_plans.old share_plans.new }
 {
+    let levels = Levels {
+        heads: holdings.groups,
+        members: holdings.shares,
+    };
     share_out_levels(
         first,
         second,
-        holdings.groups,
-        holdings.shares,
+        &levels,
         contract,
         balance.own(),
         group_plans,

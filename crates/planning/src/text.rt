@@ -10,14 +10,14 @@ impl fmt::Display for Working {
     ghost output = { λ w. Some (working_text w) };
 
     fn fmt<W: fmt::Write>(&self, f: &mut fmt::Formatter<W>) -> fmt::Result {
-        let number = self.number;
-        let claim = self.claim;
-        let floor = self.floor;
-        let extra = u8::from(self.extra);
-        let part = self.part;
         write!(
             f,
-            "{number}: planned {claim}, rounded down {floor}, left over {extra}, corrected {part}"
+            "{}: planned {}, rounded down {}, left over {}, corrected {}",
+            self.number,
+            self.claim,
+            self.floor,
+            u8::from(self.extra),
+            self.part
         )
     }
 }

@@ -12,7 +12,7 @@ use crate::holdings::Holdings;
 use division::MOST_CLAIMS;
 use division::pro_rata::rounded_down;
 use division::signed::with_sign;
-use sharing::levels::gather_heads;
+use sharing::levels::{Levels, gather_heads};
 use sharing::rows::gather;
 use tables::Table;
 use tables::bounds::{Carries, Owned};
@@ -174,7 +174,11 @@ pub fn work_out_groups(
     ensures explained { Explains deemed (group_claims contract holdings.now.groups.now holdings.now.shares.now) (listed result.lines) result.together }
 {
     let groups = holdings.groups;
-    let claims = gather_heads(groups, holdings.shares, contract);
+    let levels = Levels {
+        heads: groups,
+        members: holdings.shares,
+    };
+    let claims = gather_heads(&levels, contract);
     work_out(groups, contract, deemed, claims.as_slice(), group_plans)
 }
 

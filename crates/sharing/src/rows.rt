@@ -65,7 +65,8 @@ pub(crate) fn give_out<R: DivisionRule, T: Owned>(
     scatter(rows, owner, parts, figures);
 }
 
-// Shares a whole out by the rule among the owner's rows, by what they carry.
+// Shares a whole out by the rule among the owner's rows, by what they carry. Rows and owner are given apart:
+// one list of rows is shared out for one owner after another, so a value of both would be made anew at every call.
 // Callers are proved to stay inside the limits, so that the division is not refused.
 pub fn share_out<R: DivisionRule, T: Carries>(
     rule: &R,

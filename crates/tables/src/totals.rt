@@ -4,7 +4,7 @@ ghost use Rattle.tables.specs.Carried.{counts, carried_by};
 
 use crate::bounds::Carries;
 
-// Whose rows are totalled.
+// Whose rows are totalled. An `Option` of an owner would be no plainer: `None` does not say that everyone's rows count.
 #[derive(Clone, Copy)]
 pub enum Whose {
     Everyone,

@@ -10,10 +10,8 @@ use Rattle.planning.proofs.Deemed.{shares-light, claims-light, limits_of}
 use Rattle.planning.proofs.Explaining.{divided_as}
 use Rattle.planning.proofs.working.work_out_groups.Goals as goal
 
-pub gather_heads-claims-requires : goal.gather_heads-claims-requires
-gather_heads-claims-requires c =
-    let l = limits_of c.args.holdings.now in
-    record { few = omega (arith, l.few_groups); light = omega (arith, shares-light c.args.holdings.now.shares.now l.few_shares l.planned) }
+pub invariant_of-levels : goal.invariant_of-levels
+invariant_of-levels c = record { few = omega (arith, c.args.holdings.now.few_groups); light = omega (arith, shares-light c.args.holdings.now.shares.now c.args.holdings.now.few_shares c.args.holdings.now.planned) }
 
 pub work_out-requires : goal.work_out-requires
 work_out-requires c =

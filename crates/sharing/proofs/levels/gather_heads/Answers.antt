@@ -10,12 +10,12 @@ use Rattle.sharing.proofs.levels.gather_heads.Goals as goal
 use Rattle.sharing.proofs.levels.gather_heads.Goals.{then-owner, else-owner}
 
 pub total-together-requires : goal.total-together-requires
-total-together-requires g c = omega (arith, claims-within g.M.Owned.owned g.M.Carries.carried c.number.result c.args.members.now, c.requires.light)
+total-together-requires g c = omega (arith, claims-within g.M.Owned.owned g.M.Carries.carried c.number.result c.args.levels.now.members.now, c.args.levels.now.light)
 
 pub loop-head-preserved : goal.loop-head-preserved
 loop-head-preserved g c =
-    let heads = c.args.heads.now in
-    let members = c.args.members.now in
+    let heads = c.args.levels.now.heads.now in
+    let members = c.args.levels.now.members.now in
     let claimed = claim_of g.H.Head.claimed g.H.Head.numbered g.M.Owned.owned g.M.Carries.carried members in
     let i = c.loop-head.head-index in
     let x = c.head-item.result in
@@ -36,4 +36,4 @@ loop-head-preserved g c =
 
 pub returns : goal.returns
 returns g c =
-    gather_all (λ h. eqb (g.H.Owned.owned h) c.args.owner) (claim_of g.H.Head.claimed g.H.Head.numbered g.M.Owned.owned g.M.Carries.carried c.args.members.now) c.args.heads.now c.loop-head.head-index (listed c.loop-head.claims) _ c.loop-head-test.false c.loop-head.invariant.1
+    gather_all (λ h. eqb (g.H.Owned.owned h) c.args.owner) (claim_of g.H.Head.claimed g.H.Head.numbered g.M.Owned.owned g.M.Carries.carried c.args.levels.now.members.now) c.args.levels.now.heads.now c.loop-head.head-index (listed c.loop-head.claims) _ c.loop-head-test.false c.loop-head.invariant.1

@@ -6,5 +6,5 @@ use Rattle.sharing.proofs.levels.gather_heads.Given as goal
 
 abbrev pub invariant-loop-head : goal.invariant-loop-head
 invariant-loop-head g l =
-    let claims = claims_of g.H.Owned.owned (claim_of g.H.Head.claimed g.H.Head.numbered g.M.Owned.owned g.M.Carries.carried l.members) l.owner in
-    (length (listed l.claims) ≤ l.head-index) × (listed l.claims ++ claims (drop l.head-index l.heads) ≡ claims l.heads)
+    let claims = claims_of g.H.Owned.owned (claim_of g.H.Head.claimed g.H.Head.numbered g.M.Owned.owned g.M.Carries.carried l.levels.members.now) l.owner in
+    (length (listed l.claims) ≤ l.head-index) × (listed l.claims ++ claims (drop l.head-index l.levels.heads.now) ≡ claims l.levels.heads.now)

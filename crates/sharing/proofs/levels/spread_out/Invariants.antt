@@ -4,6 +4,6 @@ use Rattle.sharing.proofs.levels.spread_out.Given as goal
 
 abbrev pub invariant-loop-head : goal.invariant-loop-head
 invariant-loop-head g l =
-    let f = figures_of_members (g.B.DivisionRule.parts l.second) g.H.Owned.owned g.H.Head.numbered g.M.Owned.owned g.M.Carries.carried l.owner l.members in
+    let f = figures_of_members (g.B.DivisionRule.parts l.second) g.H.Owned.owned g.H.Head.numbered g.M.Owned.owned g.M.Carries.carried l.owner l.levels.members.now in
     let k = length l.yielded in
-    f (drop k l.heads) (drop k l.head_figures) l.member_figures ≡ f l.heads l.head_figures l.initial.member_figures
+    f (drop k l.levels.heads.now) (drop k l.head_figures) l.member_figures ≡ f l.levels.heads.now l.head_figures l.initial.member_figures
