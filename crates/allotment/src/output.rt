@@ -1,4 +1,4 @@
-// The output of a plant: its reading divided among its shares, and so for all plants.
+// The output of a plant: its reading divided among its shares, and so for all plants. It is written beside the shares, which stay as they were filed.
 ghost use Rattle.std.specs.Prelude.{◌≡◌, ◌≤◌, length, sum};
 ghost use Rattle.metering.specs.Readings.{kwh_of};
 ghost use Rattle.tables.specs.Figures.{figured_if};

@@ -1,4 +1,5 @@
 // The filing calls, but for the slip: each judges what it is given in order, and adds or changes one record.
+// Callers name kinds and methods by codes, as the calls are defined; each code is turned into its case before anything else is judged.
 ghost use Rattle.std.specs.Prelude.{◌≡◌};
 ghost use Rattle.book.specs.Judging.{Judges};
 ghost use Rattle.book.specs.Filing.{contract_refusal, contract_filed, group_refusal, group_filed, curtailment_refusal, curtailment_filed, plant_refusal, plant_filed, share_key, share_refusal, share_filed, place_refusal, place_filed};

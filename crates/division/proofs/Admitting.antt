@@ -24,10 +24,3 @@ admitted_divisible whole claims room a = grind (arith, nat_tests)
 
 pub too_heavy : (whole : ℕ) (claims : List ℕ) (room : ℕ) → 6144000000 < sum claims → divisible whole claims room ≡ false
 too_heavy whole claims room h = grind (arith, nat_tests)
-
--- a division inside the limits is not refused
-pub never_refused : (whole : ℕ) (claims : List ℕ) (room : ℕ) → Admitted whole claims room → divisible whole claims room ≡ false → ⊥
-never_refused whole claims room a e =
-    let t = admitted_divisible whole claims room a in
-    let z : ◌≡◌ {A = ℕ} 0 1 = cc in
-    omega arith

@@ -36,6 +36,7 @@ pub trait DivisionRule {
 }
 
 // A whole, the claims among which it is divided, and what they come to: a division inside the limits.
+// The buffer for its parts is the caller's, so each method asks for its length.
 #[derive(Clone, Copy)]
 struct Admitted<'a> {
     whole: u64,

@@ -129,7 +129,7 @@ fn show_source<S: MeterSource>(rt: HostRuntime, source: &S, draws: &mut Draws) -
     }
 }
 
-// A half-hour table.
+// A half-hour table. It and the register table differ in how a row is drawn and how it is printed: one function that took both would be longer than the two.
 fn half_hour_case(rt: HostRuntime, count: usize, draws: &mut Draws) -> io::Result<()> {
     let rows = HalfHours.rows(rt.alloc(), count, draws)?;
     for row in &rows {

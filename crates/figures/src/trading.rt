@@ -80,7 +80,7 @@ struct Key {
     ghost other: { faces partner contract ≡ false },
 }
 
-// The contract behind 11, 12 or 13, the last before the first again.
+// The contract behind 11, 12 or 13, the last before the first again. A type for the three would be turned back into the number for every line.
 fn next_contract(contract: u32) -> u32
     requires { homed contract }
     ensures { (homed result) × (result ≢ contract) }

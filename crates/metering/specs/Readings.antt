@@ -1,6 +1,6 @@
--- The readings that the two kinds of row give, and the tables of such rows.
-use Rattle.std.specs.Prelude.{ℕ, ◌+◌, ◌-◌, ◌*◌, ◌%◌, Bool, cond, ◌&&◌, List, Some, None, Option, nat_le}
-use Rattle.metering.specs.Lookup.{is_number, first_reading}
+-- The readings that the two kinds of row give.
+use Rattle.std.specs.Prelude.{ℕ, ◌+◌, ◌-◌, ◌*◌, ◌%◌, Bool, cond, ◌&&◌, Some, None, Option, nat_le}
+use Rattle.metering.specs.Lookup.{is_number}
 use Rattle.metering.specs.declared.half_hour.HalfHourRow.{HalfHourRow}
 use Rattle.metering.specs.declared.register.RegisterRow.{RegisterRow}
 
@@ -12,10 +12,6 @@ kwh_of (Some kwh) = kwh
 -- A half-hour row with a meter number and at most 2,000,000 kWh gives its kWh; any other gives none.
 abbrev pub half_hour_reading : HalfHourRow → Option ℕ
 half_hour_reading row = cond (is_number row.number && nat_le row.kwh 2000000) (Some row.kwh) None
-
--- What a half-hour table answers.
-abbrev pub half_hour_read : List HalfHourRow → ℕ → Option ℕ
-half_hour_read rows meter = first_reading (λ row. row.number) half_hour_reading meter rows
 
 -- How far a register went on: end less start modulo 100,000, which is never below zero.
 -- Start is at most 99,999, so adding 100,000 first keeps the difference above zero and leaves the remainder as it is.
@@ -29,7 +25,3 @@ register_fits row = is_number row.number && nat_le row.start 99999 && nat_le row
 -- A register row within its ranges gives its advance times its factor; any other gives none.
 abbrev pub register_reading : RegisterRow → Option ℕ
 register_reading row = cond (register_fits row) (Some (advance row.start row.end * row.factor)) None
-
--- What a register table answers.
-abbrev pub register_read : List RegisterRow → ℕ → Option ℕ
-register_read rows meter = first_reading (λ row. row.number) register_reading meter rows

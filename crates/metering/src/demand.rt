@@ -39,7 +39,7 @@ fn gather_readings<S: MeterSource>(
     Ok(gathered)
 }
 
-// A sum of readings times the multiplier, rounded down.
+// A sum of readings times the multiplier, rounded down. The multiplier is a number within its range and no type: contracts are filed with any, and a type would ask more of callers.
 fn multiply(sum: u64, multiplier: u32) -> u64
     requires light { sum ≤ 128000000 }
     requires small { multiplier ≤ 12000 }

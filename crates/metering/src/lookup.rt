@@ -45,6 +45,7 @@ pub(crate) fn is_number(number: u32) -> bool
     (number >= 1) & (number <= MOST_NUMBER)
 }
 
+// A `for` that is left at the first match, by a rule of the project: so the first row is seen to decide.
 // The reading of the first row with this number; later rows with the number do not count, even where the first gives no reading.
 pub fn first_reading<R: MeterRow>(rows: &[R], meter: u32) -> Option<u32>
     ensures { result ≡ first_reading R.MeterRow.numbered R.MeterRow.gives meter rows.now }

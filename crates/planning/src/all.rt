@@ -1,4 +1,5 @@
-// The corrected plans of every contract of a half hour.
+// The corrected plans of every contract of a half hour. Two rules and two slices of figures are passed apart:
+// so each call shows which of them is for the groups and which for the shares.
 ghost use Rattle.std.specs.Prelude.{◌≡◌, length};
 ghost use Rattle.sharing.specs.Levels.{Apart};
 ghost use Rattle.trades.specs.Trades.{net_of};

@@ -1,4 +1,4 @@
-// How groups are settled.
+// How groups are settled. Parts stand beside the groups, which stay as they were filed, and what is settled goes into memory of the caller's.
 ghost use Rattle.std.specs.Prelude.{◌≡◌, ◌≤◌, true, length, ◌==◌, unsigned_abs};
 ghost use Rattle.std.specs.List.{AllByRecursion};
 ghost use Rattle.std.proofs.Props.{props};

@@ -1,4 +1,6 @@
 // One level: a whole among the rows of one owner, each part written at its row's place.
+// Figures stand in a slice beside the rows and not in them: the records stay as they were filed, in fixed memory, and have several figures.
+// Each function states the limits of its own call: a type for a whole or claims within them would be made and taken apart again at every call.
 ghost use Rattle.std.specs.Prelude.{◌≡◌, ◌≤◌, length, sum, unsigned_abs};
 ghost use Rattle.tables.specs.Carried.{claims_of};
 ghost use Rattle.tables.specs.Listed.{listed};

@@ -26,10 +26,3 @@ put_whole {a} {b} {s} {n} p =
       long,
       sym (take-append-drop n b) ∙ ap (λ t. t ++ drop n b) p.front ∙ ap (λ t. s ++ t) p.rest ∙ ap (λ k. s ++ drop k a) long,
     )
-
--- where there is room for two texts, there is room for the first, and then for the second
-pub room-first : (at room : ℕ) (s t : List ℕ) → at + length (s ++ t) ≤ room → at + length s ≤ room
-room-first at room s t h = omega (arith, simp length-append at h)
-
-pub room_then : {a b : List ℕ} {at m : ℕ} (room : ℕ) (s t : List ℕ) → at + length (s ++ t) ≤ room → Put a b at s m → m + length t ≤ room
-room_then {a} {b} {at} {m} room s t h p = omega (arith, p.ends, simp length-append at h)

@@ -1,9 +1,9 @@
 -- The steps of loops that write figures of rows, one after another: of every row, or of those that pass.
 use Rattle.std.proofs.Common.{◌≡◌, ℕ, zero, suc, ◌+◌, ◌<◌, ◌≤◌, Bool, true, false, cond, ◌||◌, List, [], ◌∷◌, ◌++◌, map, length, get_or, take, set, sym, refl, ap, ◌∙◌, add-one, arith}
 use Rattle.std.specs.List.{AllByRecursion}
-use Rattle.std.proofs.lemmas.List.{map_more, take_more, take_more_set, take_all}
+use Rattle.std.proofs.lemmas.List.{map_more, take_more_set, take_all}
 use Rattle.std.proofs.lemmas.Bool.{cond-true, cond-false}
-use Rattle.tables.specs.Figures.{figured_if, figured_with}
+use Rattle.tables.specs.Figures.{figured_if}
 
 module _ {T F : Type 0} (figure : T → F) (rows : List T) (xs : List F) (i : ℕ) where
   pub written_more : (d : T) (v : F) → i < length rows → i < length xs → v ≡ figure (get_or rows i d) →
@@ -44,9 +44,6 @@ module _ {T F : Type 0} (passes : T → Bool) (figure : T → F) where
     pub figured_no : passes r ≡ false → now' ≡ figured_if passes figure (take (i + 1) rows) xs
     figured_no other = inv ∙ sym (figured_on ∙ cond-false _ _ _ other)
 
-  pub figured_all : (rows : List T) (xs now' : List F) (i : ℕ) → length rows ≤ i → now' ≡ figured_if passes figure (take i rows) xs → now' ≡ figured_if passes figure rows xs
-  figured_all rows xs now' i h inv = inv ∙ ap (λ q. figured_if passes figure q xs) (take_all i rows h)
-
   pub length_figured : (rows : List T) (xs : List F) → length (figured_if passes figure rows xs) ≡ length xs
   length_figured [] xs = refl
   length_figured (r ∷ rs) [] = refl
@@ -78,24 +75,3 @@ figured_twice p q both f g h e pf qg (r ∷ rs) (x ∷ xs) =
     go false true s t = qg r t
     go true false s t = pf r s
     go false false s t = refl
-
--- a loop that writes a list, element by element
-module _ {F : Type 0} (target xs : List F) (i : ℕ) where
-  pub taken_more : (v d : F) → i < length target → i < length xs → v ≡ get_or target i d → take i xs ≡ take i target → take (i + 1) (set xs i v) ≡ take (i + 1) target
-  taken_more v d h k e inv = take_more_set xs i v k ∙ ap (λ q. q ++ v ∷ []) inv ∙ ap (λ y. take i target ++ y ∷ []) e ∙ sym (take_more target i d h)
-
-  pub taken-all : length xs ≡ length target → length target ≤ i → take i xs ≡ take i target → xs ≡ target
-  taken-all l h inv = sym (take_all i xs (omega arith)) ∙ inv ∙ take_all i target h
-
--- a figure worked out from a row and what stands beside it
-module _ {T X F : Type 0} (figure : T → X → F) where
-  pub length_with : (rows : List T) (xs : List X) → length xs ≡ length rows → length (figured_with figure rows xs) ≡ length rows
-  length_with [] xs l = refl
-  length_with (r ∷ rs) [] l = absurd (omega arith)
-  length_with (r ∷ rs) (x ∷ xs) l = ap suc (length_with rs xs (omega arith))
-
-  pub with_at : (rows : List T) (xs : List X) (i : ℕ) (r : T) (x : X) (d : F) → i < length rows → i < length xs → get_or (figured_with figure rows xs) i d ≡ figure (get_or rows i r) (get_or xs i x)
-  with_at [] xs i r x d h k = absurd (omega arith)
-  with_at (q ∷ rs) [] i r x d h k = absurd (omega arith)
-  with_at (q ∷ rs) (y ∷ ys) zero r x d h k = refl
-  with_at (q ∷ rs) (y ∷ ys) (suc i) r x d h k = with_at rs ys i r x d (omega arith) (omega arith)

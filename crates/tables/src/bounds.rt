@@ -34,6 +34,7 @@ pub trait Head: Owned {
 // The owner of what belongs to nobody.
 const NOBODY: u32 = 0;
 
+// Two impls alike, one for each width: an impl written by a macro of our own is refused.
 // A figure by itself, of either width, carries itself and belongs to nobody.
 impl Owned for u32 {
     ghost owned = { λ _. 0 };

@@ -1,4 +1,5 @@
-// Figures beside rows: what was computed for a row stands at the row's place.
+// Figures beside rows: what was computed for a row stands at the row's place, in a slice of its own.
+// Rows stay as they were filed, in fixed memory, and one list of rows has several figures.
 ghost use Rattle.std.specs.Prelude.{◌≡◌, ◌^◌, ◌<◌, ◌≤◌, length, sum};
 ghost use Rattle.tables.specs.Figures.{figures_if, figure_of};
 ghost use Rattle.tables.specs.Keys.{count_if};

@@ -1,4 +1,4 @@
-// Rows that a key finds: the first of them, and how many there are.
+// Rows that a key finds: the first of them, and how many there are. Rows and key are given apart, since one list of rows is asked for one key after another.
 ghost use Rattle.std.specs.Prelude.{◌≡◌, Bool};
 ghost use Rattle.tables.specs.Apart.{has};
 ghost use Rattle.tables.specs.Keys.{count_if, find, first_of};

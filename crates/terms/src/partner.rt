@@ -13,6 +13,7 @@ pub enum Partner {
 
 impl Partner {
     // The partner of this kind and number, or an error where no partner has the kind. The exchange is always numbered 0.
+    // Kind and number are two parameters, since a pair would name neither.
     pub fn from_codes(kind: u32, number: u32) -> Result<Partner, UnknownCode>
         ensures { DecodesPartner kind number result }
     {

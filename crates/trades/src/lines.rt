@@ -1,4 +1,4 @@
-// The corrected figure of a line.
+// The corrected figure of a line. It stands beside the line, which stays as it was filed.
 ghost use Rattle.std.specs.Prelude.{◌≡◌, map, length};
 ghost use Rattle.trades.specs.Trades.{opposite, corrected};
 
