@@ -31,6 +31,7 @@ impl Parts<'_> {
         requires { length allotted.old ≡ length shares.now }
         ensures { allotted.new ≡ figured_if (is_at plant) (λ s. part_of s.rank self.now.turns.now self.now.parts.now) shares.now allotted.old }
     {
+        // by `enumerate`: after `zip` over an `iter_mut` a proof knows nothing of the values
         for (i, share) in shares.iter().enumerate() {
             if share.plant == plant {
                 allotted[i] = self.of_rank(share.rank);

@@ -7,8 +7,9 @@ ghost use Rattle.book.specs.Filing.{contract_refusal, contract_filed, group_refu
 use crate::filings::Filings;
 use crate::keys::ShareKey;
 use crate::looking::ALLOWANCE;
-use crate::ranges::{is_figure, is_multiplier, is_number, is_rank};
+use crate::ranges::{is_figure, is_multiplier, is_rank};
 use crate::rows::Shared;
+use metering::lookup::is_number;
 use tables::filing::file_row;
 use terms::codes::{Kind, Method, OwnerKind};
 use terms::records::{Contract, Curtailment, Group, GroupSort, Owner, Place, Plant};

@@ -9,7 +9,10 @@ impl Keyed<ShareKey> for Share {
     ghost fits = { is_share };
 
     fn is(&self, key: ShareKey) -> bool {
-        (self.group == key.group) & (self.plant == key.plant)
+        key == ShareKey {
+            group: self.group,
+            plant: self.plant,
+        }
     }
 }
 
@@ -17,8 +20,10 @@ impl Keyed<LineKey> for Line {
     ghost fits = { is_line };
 
     fn is(&self, key: LineKey) -> bool {
-        (self.contract == key.contract)
-            & (self.direction == key.direction)
-            & (self.partner == key.partner)
+        key == LineKey {
+            contract: self.contract,
+            direction: self.direction,
+            partner: self.partner,
+        }
     }
 }

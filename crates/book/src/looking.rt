@@ -12,6 +12,7 @@ use terms::records::{GroupSort, Owner};
 // How many lines a contract has at most, how many shares, and how many places an owner.
 pub(crate) const ALLOWANCE: usize = 64;
 
+// Each look-up is one line over another table, by another test.
 impl Filings {
     pub(crate) fn has_contract(&self, number: u32) -> bool
         ensures { result ≡ has_contract self.now number }

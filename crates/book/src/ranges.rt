@@ -1,12 +1,10 @@
 // The values and ranges of what a caller files.
 ghost use Rattle.std.specs.Prelude.{◌≡◌};
-ghost use Rattle.metering.specs.Lookup.{is_number};
 ghost use Rattle.terms.specs.Partners.{partner_code};
 ghost use Rattle.book.specs.Ranges.{is_partner, is_figure, is_rank, is_multiplier};
 
+use metering::lookup::is_number;
 use terms::partner::Partner;
-
-const MOST_NUMBER: u32 = 99_999;
 
 const MOST_KWH: u32 = 2_000_000;
 
@@ -15,12 +13,6 @@ const MOST_RANK: u32 = 99;
 const LEAST_MULTIPLIER: u32 = 10_000;
 
 const MOST_MULTIPLIER: u32 = 12_000;
-
-pub(crate) fn is_number(number: u32) -> bool
-    ensures { result ≡ is_number number }
-{
-    (1..=MOST_NUMBER).contains(&number)
-}
 
 pub(crate) fn is_figure(kwh: u32) -> bool
     ensures { result ≡ is_figure kwh }

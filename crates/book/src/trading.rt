@@ -5,8 +5,9 @@ ghost use Rattle.book.specs.Figures.{kwh_of};
 
 use crate::filings::Filings;
 use crate::keys::{LineCodes, LineKey};
-use crate::ranges::{is_figure, is_number, is_partner};
+use crate::ranges::{is_figure, is_partner};
 use crate::rows::Figure;
+use metering::lookup::is_number;
 use tables::filing::file_row;
 use terms::partner::Partner;
 use terms::refusal::Refusal;

@@ -41,6 +41,7 @@ impl<'a> Admitted<'a> {
         requires { length into.old ≡ length self.now.claims.now }
         ensures { into.new ≡ floors self.now.whole self.now.claims.now }
     {
+        // by `enumerate`: after `zip` over an `iter_mut` a proof knows nothing of the values
         for (i, claim) in self.claims.iter().enumerate() {
             into[i] = rounded_down(self.whole, self.total, self.claims.len(), *claim);
         }

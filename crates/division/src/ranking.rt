@@ -14,6 +14,7 @@ impl<'a> Admitted<'a> {
     {
         let last = self.claims.len() - 1;
         let mut remaining = self.whole;
+        // by `enumerate`: after `zip` over an `iter_mut` a proof knows nothing of the values
         for (i, claim) in self.claims[..last].iter().enumerate() {
             let part = remaining.min(*claim);
             into[i] = part;

@@ -24,6 +24,7 @@ fn sign_parts(whole: i64, parts: &[u64], into: &mut [i64])
     requires small { AllByRecursion (λ p. p ≤ 128000000) parts.now }
     ensures { into.new ≡ signed_parts whole parts.now }
 {
+    // by `enumerate`: after `zip` over an `iter_mut` a proof knows nothing of the values
     for (i, part) in parts.iter().enumerate() {
         into[i] = with_sign(whole, *part);
     }

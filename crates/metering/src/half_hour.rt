@@ -5,7 +5,7 @@ ghost use Rattle.metering.specs.Bounds.{half_hour_at_most};
 ghost use Rattle.std.proofs.Common.{rules};
 
 use crate::lookup::{MeterRow, is_number};
-use crate::table::MeterTable;
+use crate::table::{MeterKind, MeterTable};
 
 // The largest kWh of a half hour.
 const MOST_KWH: u32 = 2_000_000;
@@ -19,11 +19,23 @@ pub struct HalfHourRow {
 
 // Its reading is what it recorded; a row with a number or kWh outside its range gives none.
 impl MeterRow for HalfHourRow {
-    const LARGEST: u32 = MOST_KWH;
-
     ghost numbered = { λ row. row.number };
 
     ghost gives = { half_hour_reading };
+
+    fn number(&self) -> u32 {
+        self.number
+    }
+
+    fn reading(&self) -> Option<u32> {
+        let fits = is_number(self.number) & (self.kwh <= MOST_KWH);
+        fits.then_some(self.kwh)
+    }
+}
+
+// Its largest reading.
+impl MeterKind for HalfHourRow {
+    const LARGEST: u32 = MOST_KWH;
 
     ghost largest = { 2000000 };
 
@@ -33,15 +45,6 @@ impl MeterRow for HalfHourRow {
 
     fn largest_reading() -> u32 {
         Self::LARGEST
-    }
-
-    fn number(&self) -> u32 {
-        self.number
-    }
-
-    fn reading(&self) -> Option<u32> {
-        let fits = is_number(self.number) & (self.kwh <= MOST_KWH);
-        fits.then_some(self.kwh)
     }
 }
 

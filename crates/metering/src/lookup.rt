@@ -1,5 +1,5 @@
 // The one search of every table of meters: the first row with a meter's number decides.
-ghost use Rattle.std.specs.Prelude.{◌≡◌, ℕ, ◌≤◌, Some, Option as Maybe};
+ghost use Rattle.std.specs.Prelude.{◌≡◌, ℕ, Option as Maybe};
 ghost use Rattle.metering.specs.Lookup.{is_number, first_reading};
 
 // Meter numbers run from 1 to this.
@@ -7,21 +7,11 @@ const MOST_NUMBER: u32 = 99_999;
 
 // A row of a table of meters.
 pub trait MeterRow {
-    // The largest reading that a row of this kind gives: no kind may give more than 2,000,000.
-    const LARGEST: u32;
-
     // the meter's number
     ghost numbered: { Self → ℕ };
 
     // the reading that the row gives; none where the row is outside its ranges
     ghost gives: { Self → Maybe ℕ };
-
-    // the largest reading of the kind, which `largest_reading` ties to the constant
-    ghost largest: { ℕ };
-
-    // The largest reading of this kind: the constant.
-    fn largest_reading() -> u32
-        ensures { result ≡ largest };
 
     // The number of the row's meter, in its range or not.
     fn number(&self) -> u32
@@ -30,16 +20,10 @@ pub trait MeterRow {
     // What the row gives as the meter's reading.
     fn reading(&self) -> Option<u32>
         ensures { result ≡ gives self.now };
-
-    // no row gives more
-    ghost bounded: { (row : Self) (kwh : ℕ) → gives row ≡ Some kwh → kwh ≤ largest };
-
-    // and no kind may give more than this
-    ghost small: { largest ≤ 2000000 };
 }
 
-// Whether a row's number is one that a meter can have.
-pub(crate) fn is_number(number: u32) -> bool
+// Whether a number is one that a meter, and any record of a book, can have.
+pub fn is_number(number: u32) -> bool
     ensures { result ≡ is_number number }
 {
     (number >= 1) & (number <= MOST_NUMBER)

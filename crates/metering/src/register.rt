@@ -5,7 +5,7 @@ ghost use Rattle.metering.specs.Bounds.{register_at_most};
 ghost use Rattle.std.proofs.Common.{rules};
 
 use crate::lookup::{MeterRow, is_number};
-use crate::table::MeterTable;
+use crate::table::{MeterKind, MeterTable};
 
 // A register shows 0 to 99,999: so many values before it starts again.
 const ROUND: u32 = 100_000;
@@ -44,12 +44,23 @@ fn used(start: u32, end: u32, factor: u32) -> u32
 
 // Its reading is how far the register went on, times the factor; a row with anything outside its range gives none.
 impl MeterRow for RegisterRow {
-    // the most steps at the most kWh to a step: 1,999,980
-    const LARGEST: u32 = (ROUND - 1) * MOST_FACTOR;
-
     ghost numbered = { λ row. row.number };
 
     ghost gives = { register_reading };
+
+    fn number(&self) -> u32 {
+        self.number
+    }
+
+    fn reading(&self) -> Option<u32> {
+        fits(self).then(|| used(self.start, self.end, self.factor))
+    }
+}
+
+// Its largest reading.
+impl MeterKind for RegisterRow {
+    // the most steps at the most kWh to a step: 1,999,980
+    const LARGEST: u32 = (ROUND - 1) * MOST_FACTOR;
 
     ghost largest = { 1999980 };
 
@@ -59,14 +70,6 @@ impl MeterRow for RegisterRow {
 
     fn largest_reading() -> u32 {
         Self::LARGEST
-    }
-
-    fn number(&self) -> u32 {
-        self.number
-    }
-
-    fn reading(&self) -> Option<u32> {
-        fits(self).then(|| used(self.start, self.end, self.factor))
     }
 }
 

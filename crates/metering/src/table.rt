@@ -1,10 +1,29 @@
 // Tables of meters, of whatever kind of row.
-ghost use Rattle.std.specs.Prelude.{◌≡◌};
+ghost use Rattle.std.specs.Prelude.{◌≡◌, ℕ, ◌≤◌, Some};
 ghost use Rattle.metering.specs.Bounds.{first-at_most};
 ghost use Rattle.metering.specs.Lookup.{first_reading};
 
 use crate::lookup::{MeterRow, first_reading};
 use crate::source::MeterSource;
+
+// A kind of row with a largest reading.
+pub trait MeterKind: MeterRow {
+    // The largest reading that a row of this kind gives: no kind may give more than 2,000,000.
+    const LARGEST: u32;
+
+    // the largest reading of the kind, which `largest_reading` ties to the constant
+    ghost largest: { ℕ };
+
+    // The largest reading of this kind: the constant.
+    fn largest_reading() -> u32
+        ensures { result ≡ largest };
+
+    // no row gives more
+    ghost bounded: { (row : Self) (kwh : ℕ) → Self.gives row ≡ Some kwh → kwh ≤ largest };
+
+    // and no kind may give more than this
+    ghost small: { largest ≤ 2000000 };
+}
 
 // A table of meters, as it was delivered: nothing in it is checked beforehand.
 #[derive(Drop)]
@@ -22,7 +41,7 @@ impl<R: Drop> MeterTable<R> {
 }
 
 // It reads each meter by the first row with the meter's number.
-impl<R: MeterRow> MeterSource for MeterTable<R> {
+impl<R: MeterKind> MeterSource for MeterTable<R> {
     const LARGEST: u32 = R::LARGEST;
 
     ghost read = { λ table meter. first_reading R.numbered R.gives meter table.rows.items };

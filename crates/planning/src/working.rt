@@ -104,7 +104,7 @@ fn work_out_part(
     }
 }
 
-// The working of each of the owner's rows, in listed order, from their claims and their figures.
+// The working of each of the owner's rows, in listed order, from their claims and their figures: the loop of `work_out`, which takes what that takes.
 fn list_lines<T: Claimant>(
     rows: &[T],
     owner: u32,

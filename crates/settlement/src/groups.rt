@@ -155,6 +155,7 @@ pub fn settle_groups<S: MeterSource>(
     ensures exact { settled.new ≡ groups_settled (kwh_read (S.MeterSource.read area.now.source.now)) area.now.contracts.now area.now.places.now allotted.now.shares.now allotted.now.allotted.now groups.now parts.now }
     ensures small { AllByRecursion (λ g. g.supplied ≤ 153600000) settled.new }
 {
+    // by `enumerate`: after `zip` over an `iter_mut` a proof knows nothing of the values
     for (i, (group, part)) in groups.iter().zip(parts).enumerate() {
         settled[i] = settle_group(area, allotted, group, *part);
     }

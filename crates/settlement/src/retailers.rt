@@ -88,6 +88,7 @@ pub fn settle_contracts<S: MeterSource>(
     requires { length settled.old ≡ length area.now.contracts.now }
     ensures { settled.new ≡ contracts_settled (kwh_read (S.MeterSource.read area.now.source.now)) area.now.places.now trades.now.lines.now trades.now.figures.now groups.now.groups.now area.now.contracts.now }
 {
+    // by `enumerate`: after `zip` over an `iter_mut` a proof knows nothing of the values
     for (i, contract) in area.contracts.iter().enumerate() {
         settled[i] = settle_contract(area, trades, groups, contract);
     }

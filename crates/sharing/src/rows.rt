@@ -31,6 +31,7 @@ fn scatter<T: Owned>(rows: &[T], owner: u32, parts: &[i64], figures: &mut [i64])
     requires each { length parts.now ≡ count_of T.Owned.owned owner rows.now }
     ensures { figures.new ≡ placed T.Owned.owned owner rows.now parts.now figures.old }
 {
+    // by `enumerate`: after `zip` over an `iter_mut` a proof knows nothing of the values
     let mut left = parts.iter();
     for (i, row) in rows.iter().enumerate() {
         if row.owner() == owner {

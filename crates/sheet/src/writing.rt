@@ -1,4 +1,5 @@
 // Writing into a buffer from a place on. Each function answers the place behind what it wrote; callers are proved to have the room.
+// Buffer and place are two parameters: a value of both would hold the `&mut`, and the contract would speak of the buffer through it, no plainer.
 ghost use Rattle.std.specs.Prelude.{◌+◌, ◌≤◌, ◌++◌, length};
 ghost use Rattle.sheet.specs.Put.{Put};
 ghost use Rattle.sheet.specs.Sheet.{header_text, row_text, rows_text};

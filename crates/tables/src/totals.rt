@@ -22,7 +22,7 @@ impl Whose {
     }
 }
 
-// What the rows that count carry together, unless that is over `most`.
+// What the rows that count carry together, unless that is over `most`: then the loop is left, where a fold would have to carry an `Option` through every row.
 pub fn total_within<T: Carries>(rows: &[T], whose: Whose, most: u64) -> Option<u64>
     ensures { MatchOption result (most < sum (carried_by whose T.Owned.owned T.Carries.carried rows.now))
         (λ t. (t ≡ sum (carried_by whose T.Owned.owned T.Carries.carried rows.now)) × (t ≤ most)) }

@@ -51,6 +51,7 @@ impl fmt::Display for UnknownCode {
 
 impl Error for UnknownCode {}
 
+// Each of the four conversions maps other codes to other cases, and an impl written by a macro of our own is refused.
 impl TryFrom<u32> for Kind {
     type Error = UnknownCode;
 

@@ -22,6 +22,7 @@ pub struct CorrectedLines<'a> {
 
 impl CorrectedLines<'_> {
     // The contract's corrected sales and purchases, and what they leave to its own generation.
+    // The function of this name asks for the lines of one contract alone, so it stays beside this.
     pub fn balance_of(&self, contract: u32) -> Balance
         ensures sold { result.sold ≡ traded Sale contract self.now.lines.now self.now.figures.now }
         ensures bought { result.bought ≡ traded Purchase contract self.now.lines.now self.now.figures.now }

@@ -31,6 +31,7 @@ pub fn corrected_figure(lines: &[Line], line: &Line) -> u32
     match line.partner {
         Partner::Exchange | Partner::Outside(_) => line.agreed,
         Partner::Contract(_) => {
+            // a missing opposite line is told apart here, by a rule of the project, and not folded into a number
             let Some(other) = find_row(lines, OppositeOf { line: *line }) else {
                 return 0;
             };
@@ -44,6 +45,7 @@ pub fn correct_lines(lines: &[Line], figures: &mut [u32])
     requires { length figures.old ≡ length lines.now }
     ensures { figures.new ≡ map (corrected lines.now) lines.now }
 {
+    // by `enumerate`: after `zip` over an `iter_mut` a proof knows nothing of the values
     for (i, line) in lines.iter().enumerate() {
         figures[i] = corrected_figure(lines, line);
     }
