@@ -1,4 +1,6 @@
 // What the shares at a plant claim of its output, in the order of their turns.
+// What is gathered is pushed by loops, which the check proves with no or one short answer, where `Table::collect` over a chain needs a longer one;
+// turns go through the ranks, since a turn is defined by its rank.
 ghost use Rattle.std.specs.Prelude.{◌≡◌, ◌≤◌, map, length, sum, ◌==◌, unsigned_abs};
 ghost use Rattle.tables.specs.Listed.{listed};
 ghost use Rattle.allotment.specs.Claims.{claimed, claim_of, claims_at, in_turn};

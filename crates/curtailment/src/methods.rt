@@ -79,6 +79,7 @@ pub fn settle_curtailment(curtailment: &Curtailment, deemed: i64, used: u64) -> 
         deemed,
         used,
     };
+    // the rules know two methods and no more, so they are cases and no step that could be passed in
     match curtailment.method {
         Method::One => called.by_method_one(),
         Method::Two => called.by_method_two(),

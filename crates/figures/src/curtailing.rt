@@ -9,7 +9,7 @@ use std::io;
 use terms::codes::Method;
 use terms::records::Curtailment;
 
-// A signed figure of at most this magnitude; every other one has a minus.
+// A signed figure of at most this magnitude; every other one has a minus. Wholes have other odds and a lowest number besides (`Whole`).
 fn draw_signed(draws: &mut Draws, most: u32) -> i64
     ensures { unsigned_abs result ≤ most }
 {
@@ -51,7 +51,7 @@ fn draw_used(draws: &mut Draws, baseline: u64, plan: u64) -> u64
     }
 }
 
-// A group and a retailer of a case: what the group filed, its deemed plan and metered demand, and the retailer's own metered demand and its deemed demand.
+// A group and a retailer of a case, with the limits that settling them asks for: what the group filed, its deemed plan and metered demand, and the retailer's own metered demand and its deemed demand.
 #[derive(Clone, Copy)]
 struct Called {
     baseline: u32,

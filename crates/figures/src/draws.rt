@@ -75,6 +75,7 @@ impl Draws {
 }
 
 // What draws rows, by the place that a row is to stand at; every row is fine.
+// Every row is drawn by its place from the draws of its case, so both go to every pattern.
 pub trait DrawsRows<T: Drop> {
     ghost fine: { Self → T → Type 0 };
 

@@ -108,7 +108,7 @@ impl PlanPattern {
         }
     }
 
-    // The five groups.
+    // The five groups, written out: an array made by a closure would not tell that their numbers are apart.
     fn groups(&self, draws: &mut Draws) -> [Group; GROUPS]
         ensures apart { Apart (λ (g : Group). g.number) result }
         ensures homes { AllByRecursion (λ g. homed g.contract) result }

@@ -33,6 +33,7 @@ impl fmt::Display for Rule {
     }
 }
 
+// Which rule divides is drawn, so it is a case; the two types of `division` do the work.
 impl DivisionRule for Rule {
     ghost parts = { parts_by };
 

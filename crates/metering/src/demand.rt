@@ -19,7 +19,7 @@ pub struct Unread {
     pub meter: u32,
 }
 
-// The readings of the meters in listed order, or the first meter that has none.
+// The readings of the meters in listed order, or the first meter that has none: a `for` with `?`, since the contract says which meter ends it.
 fn gather_readings<S: MeterSource>(
     source: &S,
     meters: &[u32],

@@ -1,4 +1,4 @@
-// The correction of one generation contract's plan.
+// The correction of one generation contract's plan. Plans stand beside groups and shares, in memory of the caller's, so each function asks for their lengths.
 ghost use Rattle.std.specs.Prelude.{◌≡◌, ◌≤◌, length, pos, ◌-ℤ◌, unsigned_abs};
 ghost use Rattle.terms.specs.Plans.{plan_of};
 ghost use Rattle.planning.specs.Plans.{PlanCorrected, group_plan};

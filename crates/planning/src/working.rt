@@ -1,4 +1,5 @@
 // The working of a pro rata division: how each claimant came to its part, so that a reader can follow it with a pencil.
+// Plans stand beside groups and shares, in memory of the caller's, so each function asks for their lengths.
 ghost use Rattle.std.specs.Prelude.{◌≡◌, ℕ, ◌≤◌, map, length, ℤ, sum, unsigned_abs};
 ghost use Rattle.std.specs.List.{AllByRecursion};
 ghost use Rattle.tables.specs.Listed.{listed};

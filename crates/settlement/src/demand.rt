@@ -14,7 +14,7 @@ use tables::Table;
 use tables::keys::{Keyed, find_row};
 use terms::records::{Contract, Owner, Place};
 
-// The meters of the owner's places, in listed order. Callers are proved to have at most 64 of them.
+// The meters of the owner's places, in listed order: pushed by a loop, which the check proves with no answer. Callers are proved to have at most 64 of them.
 fn meters_of(places: &[Place], owner: Owner) -> Table<u32, MOST_METERS>
     requires { count_if (is_of owner) places.now ≤ 64 }
     ensures { listed result ≡ meters_of owner places.now }
@@ -28,7 +28,7 @@ fn meters_of(places: &[Place], owner: Owner) -> Table<u32, MOST_METERS>
     meters
 }
 
-// The key of a contract: its number.
+// The key of a contract: its number. A type, since a generic search takes it.
 #[derive(Clone, Copy)]
 pub struct Numbered {
     pub number: u32,

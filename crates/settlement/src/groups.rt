@@ -44,7 +44,7 @@ impl Carries for SettledGroup {
     }
 }
 
-// The key of a group's shares: the group's number.
+// The key of a group's shares: the group's number. A type, since a generic total takes it.
 #[derive(Clone, Copy)]
 struct OfGroup {
     group: u32,

@@ -1,4 +1,4 @@
-// How retail contracts are settled.
+// How retail contracts are settled. What is settled goes into memory of the caller's, beside the contracts, which stay as they were filed.
 ghost use Rattle.std.specs.Prelude.{◌≡◌, ◌≤◌, length};
 ghost use Rattle.std.specs.List.{AllByRecursion};
 ghost use Rattle.std.proofs.Props.{props};

@@ -15,7 +15,7 @@ use terms::records::Line;
 // How many lines a contract has at most.
 pub const MOST_LINES: usize = 64;
 
-// The key of a contract's lines of one direction.
+// The key of a contract's lines of one direction. A type, since a generic gathering takes it.
 #[derive(Clone, Copy)]
 struct TradesOf {
     direction: Direction,

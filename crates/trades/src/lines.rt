@@ -6,7 +6,7 @@ use tables::keys::{Keyed, find_row};
 use terms::partner::Partner;
 use terms::records::Line;
 
-// The key of the opposite of a line.
+// The key of the opposite of a line. A type, since the generic search takes it.
 #[derive(Clone, Copy)]
 struct OppositeOf {
     line: Line,
