@@ -37,7 +37,7 @@ impl MeterRow for HalfHourRow {
 impl MeterKind for HalfHourRow {
     const LARGEST: u32 = MOST_KWH;
 
-    ghost largest = { 2000000 };
+    ghost LARGEST = { 2000000 };
 
     ghost bounded = { half_hour_at_most };
 

@@ -62,7 +62,7 @@ impl MeterKind for RegisterRow {
     // the most steps at the most kWh to a step: 1,999,980
     const LARGEST: u32 = (ROUND - 1) * MOST_FACTOR;
 
-    ghost largest = { 1999980 };
+    ghost LARGEST = { 1999980 };
 
     ghost bounded = { register_at_most };
 

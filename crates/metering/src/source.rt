@@ -9,6 +9,9 @@ pub trait MeterSource {
     // the source's meaning: the reading, if any, of each meter number
     ghost read: { Self → ℕ → Maybe ℕ };
 
+    // the constant, which the check proves equal to a ghost member of its name
+    ghost LARGEST: { ℕ };
+
     // the largest reading of the kind, which `largest_reading` ties to the constant
     ghost largest: { ℕ };
 

@@ -11,18 +11,18 @@ pub trait MeterKind: MeterRow {
     // The largest reading that a row of this kind gives: no kind may give more than 2,000,000.
     const LARGEST: u32;
 
-    // the largest reading of the kind, which `largest_reading` ties to the constant
-    ghost largest: { ℕ };
+    // the constant, as clauses and laws name it: the check proves the two equal
+    ghost LARGEST: { ℕ };
 
     // The largest reading of this kind: the constant.
     fn largest_reading() -> u32
-        ensures { result ≡ largest };
+        ensures { result ≡ LARGEST };
 
     // no row gives more
-    ghost bounded: { (row : Self) (kwh : ℕ) → Self.gives row ≡ Some kwh → kwh ≤ largest };
+    ghost bounded: { (row : Self) (kwh : ℕ) → Self.gives row ≡ Some kwh → kwh ≤ LARGEST };
 
     // and no kind may give more than this
-    ghost small: { largest ≤ 2000000 };
+    ghost small: { LARGEST ≤ 2000000 };
 }
 
 // A table of meters, as it was delivered: nothing in it is checked beforehand.
@@ -46,14 +46,16 @@ impl<R: MeterKind> MeterSource for MeterTable<R> {
 
     ghost read = { λ table meter. first_reading R.numbered R.gives meter table.rows.items };
 
-    ghost largest = { R.largest };
+    ghost LARGEST = { R.LARGEST };
 
-    ghost bounded = { λ table meter kwh e. first-at_most R.numbered R.gives R.largest R.bounded meter table.rows.items kwh e };
+    ghost largest = { R.LARGEST };
+
+    ghost bounded = { λ table meter kwh e. first-at_most R.numbered R.gives R.LARGEST R.bounded meter table.rows.items kwh e };
 
     ghost small = { R.small };
 
     fn largest_reading(&self) -> u32 {
-        R::largest_reading()
+        Self::LARGEST
     }
 
     fn reading(&self, meter: u32) -> Option<u32> {
