@@ -17,12 +17,13 @@ pub fn gather<T: Carries>(rows: &[T], owner: u32) -> Table<u64, MOST_CLAIMS>
     requires { length rows.now ≤ 256 }
     ensures { listed result ≡ claims_of T.Owned.owned T.Carries.carried owner rows.now }
 {
-    Table::collect(
+    let mut claims = Table::new(0);
+    claims.extend(
         rows.iter()
             .filter(|row| row.owner() == owner)
             .map(|row| row.kwh()),
-        0,
-    )
+    );
+    claims
 }
 
 // Gives the owner's rows their parts in listed order. Every other row keeps its figure.

@@ -1,6 +1,6 @@
 -- A table that was collected has the items of the chain, in order; and a chain of few enough items fits a table.
 use Rattle.std.proofs.Common.{◌≡◌, ℕ, List, [], ◌∷◌, length, map, sym, refl, ap, ◌∙◌, arith}
-use Rattle.std.proofs.Common.{Bool, true, false, cond, ◌+◌, ◌≤◌, Some}
+use Rattle.std.proofs.Common.{Bool, true, false, cond, ◌++◌, ◌+◌, ◌≤◌, Some}
 use Rattle.std.specs.Prelude.{Option, option_map, unwrap_or}
 use Rattle.std.specs.List.{filter, find, zip}
 use Rattle.tables.specs.Figures.{figure_of, figures_if}
@@ -27,6 +27,14 @@ few_items {steps = steps} {v = v} {all = all} {s = s} n chain within xs t y =
 -- what was drained from the chain is what it gives
 pub collected : {S A : Type 0} {steps : S → Option A → S → Type 0} {s : S} {all rows : List A} → (xs : List A) × DrainsIf steps (Unit {0}) s xs × (rows ≡ xs) → YieldsList steps (λ x. x) s all → rows ≡ all
 collected r chain = r.2 ∙ sym (map-id r.0) ∙ items_from_drains r.0 r.1 chain
+
+-- what a table without rows was extended by is what the chain gives
+pub extended : {S A : Type 0} {steps : S → Option A → S → Type 0} {s : S} {all before rows : List A} → before ≡ [] → (xs : List A) × DrainsIf steps (Unit {0}) s xs × (rows ≡ before ++ xs) → YieldsList steps (λ x. x) s all → rows ≡ all
+extended none r chain = collected (r.0, r.1, r.2 ∙ ap (λ q. q ++ r.0) none) chain
+
+-- a table without rows has room for as many as it has places
+pub few_more : {A : Type 0} (before : List A) (m n : ℕ) → before ≡ [] → m ≤ n → length before + m ≤ n
+few_more before m n none h = omega (arith, ap length none, h)
 
 -- the pairs of rows and figures whose row passes, as the figures of the rows that pass
 pub figures_if-filter : {T F : Type 0} (passes : T → Bool) (rows : List T) (xs : List F) → map (λ (p : T × F). p.1) (filter (λ p. passes p.0) (zip rows xs)) ≡ figures_if passes rows xs

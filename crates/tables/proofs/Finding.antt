@@ -1,12 +1,21 @@
 -- A search and a count, one row on; what a search tells of the row that it found, and of filing under its key.
 use Rattle.std.specs.List.{filter}
-use Rattle.std.proofs.Common.{◌≡◌, ℕ, zero, suc, ◌+◌, ◌-◌, ◌<◌, ◌≤◌, max, Bool, true, false, cond, ◌||◌, List, [], ◌∷◌, ◌++◌, length, get_or, set, is_some, Some, None, sym, refl, ap, ◌∙◌, subst, arith}
+use Rattle.std.proofs.Common.{◌≡◌, ℕ, zero, suc, ◌+◌, ◌-◌, ◌<◌, ◌≤◌, max, Bool, true, false, cond, ◌||◌, List, [], ◌∷◌, ◌++◌, length, get_or, drop, set, is_some, Some, None, sym, refl, ap, ◌∙◌, subst, arith}
 use Rattle.tables.specs.Apart.{has}
 use Rattle.tables.specs.Keys.{find_from, find, first_of, count_if}
 use Rattle.tables.specs.Figures.{figure_of}
 use Rattle.tables.specs.Filing.{upsert, Filed}
+use Rattle.tables.proofs.Steps.{at_row}
 
 module _ {T : Type 0} (passes : T → Bool) where
+  -- the row at i, read as x, is tested with the answer b
+  module _ (rows : List T) (i : ℕ) (x : T) (b : Bool) (within : i < length rows) (read : x ≡ get_or rows i x) (told : b ≡ passes x) where
+    pub find_on : find_from passes i (drop i rows) ≡ cond b (Some i) (find_from passes (i + 1) (drop (i + 1) rows))
+    find_on = at_row (find_from passes i) rows i x within read ∙ ap (λ t. cond t (Some i) (find_from passes (i + 1) (drop (i + 1) rows))) (sym told)
+
+    pub count_on : count_if passes (drop i rows) ≡ cond b 1 0 + count_if passes (drop (i + 1) rows)
+    count_on = at_row (count_if passes) rows i x within read ∙ ap (λ t. cond t 1 0 + count_if passes (drop (i + 1) rows)) (sym told)
+
   -- a place that a search from n on answers, as the place `at` of the list
   pub record Found (rows : List T) (n j : ℕ) : Type 0 where
     pub at : ℕ

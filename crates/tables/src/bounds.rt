@@ -34,13 +34,13 @@ pub trait Head: Owned {
 // The owner of what belongs to nobody.
 const NOBODY: u32 = 0;
 
-// Two impls alike, one for each width: an impl written by a macro of our own is refused.
-// A figure by itself, of either width, carries itself and belongs to nobody.
+// A figure by itself, of either width, carries itself and belongs to nobody: one of 32 bits as the same of 64.
+// An impl for each width: one written by a macro of our own is refused.
 impl Owned for u32 {
     ghost owned = { λ _. 0 };
 
     fn owner(&self) -> u32 {
-        NOBODY
+        u64::from(*self).owner()
     }
 }
 
@@ -48,7 +48,7 @@ impl Carries for u32 {
     ghost carried = { λ x. x };
 
     fn kwh(&self) -> u64 {
-        u64::from(*self)
+        u64::from(*self).kwh()
     }
 }
 

@@ -24,13 +24,14 @@ pub fn gather_fitting<K: Copy, T: Keyed<K>, F: Copy, const N: usize>(
     requires few { count_if (T.Keyed.fits key) rows.now ≤ N }
     ensures { listed result ≡ figures_if (T.Keyed.fits key) rows.now figures.now }
 {
-    Table::collect(
+    let mut gathered = Table::new(blank);
+    gathered.extend(
         rows.iter()
             .zip(figures)
             .filter(|(row, _)| row.is(key))
             .map(|(_, figure)| *figure),
-        blank,
-    )
+    );
+    gathered
 }
 
 // The figure of the first row that the key fits, 0 where it fits none. Callers are proved to have a figure for each row.

@@ -1,4 +1,4 @@
-ghost use Rattle.std.specs.Prelude.{◌≡◌, ◌<◌, ◌≤◌, List, [], ◌∷◌, ◌++◌, length, replicate, slice_set, ⊤};
+ghost use Rattle.std.specs.Prelude.{◌≡◌, ◌+◌, ◌<◌, ◌≤◌, List, [], ◌∷◌, ◌++◌, length, replicate, slice_set, ⊤};
 ghost use Rattle.std.specs.Iterator.{DrainsIf, IsFinite, Yields};
 ghost use Rattle.tables.specs.Listed.{full, listed, places};
 
@@ -25,10 +25,21 @@ impl<T: Copy, const N: usize> Table<T, N> {
         ensures { (xs : List T) × DrainsIf I.next_gives ⊤ items xs × (listed result ≡ xs) }
     {
         let mut table = Table::new(blank);
-        for item in items {
-            table.push(item);
-        }
+        table.extend(items);
         table
+    }
+
+    // The items as they come, each a row more, behind the listed ones. Callers are proved to have room for all of them.
+    // A table that is handed on by value is extended where it stands: `collect` would move it once more.
+    pub fn extend<I: Iterator<Item = T>>(&mut self, items: I)
+        requires can { I.can_next items }
+        requires ends { IsFinite (I.remaining items) }
+        requires few { (xs : List T) (rest : I) → Yields I.next_gives items xs rest → length (listed self.old) + length xs ≤ N }
+        ensures { (xs : List T) × DrainsIf I.next_gives ⊤ items xs × (listed self.new ≡ listed self.old ++ xs) }
+    {
+        for item in items {
+            self.push(item);
+        }
     }
 
     // The listed rows.
@@ -69,12 +80,15 @@ impl<T: Copy, const N: usize> Table<T, N> {
         self.rows[i] = row;
     }
 
-    // The blank row fills every place, also those of rows that were listed, and no row is listed: as a new table.
+    // The blank row fills every place, also those of rows that were listed, and no row is listed.
+    // Place by place: a new table, assigned to this one, would be made beside it and copied.
     pub fn wipe(&mut self, blank: T)
         ensures empty { listed self.new ≡ [] }
         ensures blank { places self.new ≡ replicate N blank }
     {
         self.len = 0;
-        *self = Table::new(blank);
+        for place in self.rows.iter_mut() {
+            *place = blank;
+        }
     }
 }

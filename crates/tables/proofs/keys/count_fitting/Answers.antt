@@ -1,11 +1,18 @@
-use Rattle.std.proofs.Common.{rules, tests, ◌∙◌}
-use Rattle.std.proofs.lemmas.Iterator.{YieldsList-from_slice}
-use Rattle.std.proofs.lemmas.Iterator.Consumers.{count_from_yields_List, YieldsList-from_filter}
-use Rattle.tables.proofs.Finding.{length-filtered}
+use Rattle.std.proofs.Common.{arith}
+use Rattle.std.proofs.lemmas.List.{at_drop_all}
+use Rattle.tables.specs.Keys.{count_if}
+use Rattle.tables.proofs.Finding.{count_on}
 use Rattle.tables.proofs.keys.count_fitting.Goals as goal
+use Rattle.tables.proofs.keys.count_fitting.Goals.{then-is, else-is}
+
+pub loop-row-preserved : goal.loop-row-preserved
+loop-row-preserved g c =
+    let on = count_on (g.T.Keyed.fits c.args.key) c.args.rows.now c.loop-row.row-index c.row-item.result c.is.result c.loop-row-test.true c.row-item.is c.is.ensures in
+    elim c.if-is.branch [
+      | then-is w ↦ let here = simp w.if-is.true at on in (omega (arith, w.count-is), omega (arith, w.count-is, here, c.loop-row.invariant.1))
+      | else-is w ↦ let here = simp w.if-is.false at on in (omega (arith, w.count-is), omega (arith, w.count-is, here, c.loop-row.invariant.1))
+    ]
 
 pub returns : goal.returns
 returns g c =
-    count_from_yields_List c.filter.result c.count.result c.count.ensures.ran
-    (YieldsList-from_filter _ (g.T.Keyed.fits c.args.key) (YieldsList-from_slice c.args.rows.now (cc)) c.filter.ensures.closure (λ x b q k. search (rules, tests)))
-    ∙ length-filtered (g.T.Keyed.fits c.args.key) c.args.rows.now
+    omega (arith, c.loop-row.invariant.1, at_drop_all (count_if (g.T.Keyed.fits c.args.key)) c.args.rows.now c.loop-row.row-index c.loop-row-test.false)
