@@ -17,8 +17,8 @@ impl Keyed<OppositeOf> for Line {
 
     fn is(&self, key: OppositeOf) -> bool {
         let line = key.line;
-        (line.partner == Partner::Contract(self.contract))
-            & (self.partner == Partner::Contract(line.contract))
+        matches!(line.partner, Partner::Contract(number) if number == self.contract)
+            & matches!(self.partner, Partner::Contract(number) if number == line.contract)
             & (line.direction != self.direction)
     }
 }
