@@ -132,8 +132,17 @@ fn list_lines<T: Claimant>(
     let mut left = claims.iter();
     for (row, figure) in rows.iter().zip(figures) {
         if row.owner() == owner {
-            let claim = *left.next().unwrap();
-            lines.push(work_out_part(whole, all, claims.len(), row.known_by(), claim, *figure));
+            // there is one, as is proved: an `unwrap` would leave a way out of the loop, past which the table is cleared and copied once more
+            if let Some(claim) = left.next() {
+                lines.push(work_out_part(
+                    whole,
+                    all,
+                    claims.len(),
+                    row.known_by(),
+                    *claim,
+                    *figure,
+                ));
+            }
         }
     }
     lines

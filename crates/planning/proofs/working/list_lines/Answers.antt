@@ -20,8 +20,8 @@ work_out_part-requires-clause-some g c =
     let m = count_yes g.T.Owned.owned c.args.owner c.args.rows.now (length c.loop-row.yielded) c.in-Some.row.now t.0 (t.2 c.in-Some.row.now) (sym c.owner.ensures ∙ c.if-owner.true) in
     omega (arith, m, c.loop-row.invariant.1, c.loop-row.invariant.2)
 
-pub loop-row-preserved-then-owner : goal.loop-row-preserved-then-owner
-loop-row-preserved-then-owner g c =
+pub loop-row-preserved-in-Some-next : goal.loop-row-preserved-in-Some-next
+loop-row-preserved-in-Some-next g c =
     let owned = g.T.Owned.owned in
     let rows = c.args.rows.now in
     let xs = c.args.figures.now in
@@ -31,7 +31,7 @@ loop-row-preserved-then-owner g c =
     let out = listed c.loop-row.lines in
     let ps = iter_rest c.loop-row.left in
     let qs = iter_rest c.next-then-owner.new.self in
-    let p = c.unwrap-claim.result.now in
+    let p = c.in-Some-next.claim.now in
     let line = working_of (to_z w64 (of_z w64 c.args.whole)) (sum cs) (length cs) in
     let all = workings owned g.T.Claimant.known c.args.owner line in
     let t = zip_turn rows xs c.loop-row.yielded _ _ c.next.new.self c.next.result (cc) (cc) c.loop-row.yielded_by _ c.in-Some.is c.next.ensures.steps in
@@ -75,3 +75,10 @@ loop-row-preserved g c =
       c.loop-row.invariant.3,
       lines_no owned g.T.Claimant.known c.args.owner line rows i x t.0 (t.2 x) ps 0 xs t.1 (listed c.loop-row.lines) _ _ other refl c.loop-row.invariant.4,
     )
+
+-- a claim is left where a row is the owner's
+pub loop-row-preserved-in_default : goal.loop-row-preserved-in_default
+loop-row-preserved-in_default g c =
+    let t = zip_turn c.args.rows.now c.args.figures.now c.loop-row.yielded _ _ c.next.new.self c.next.result (cc) (cc) c.loop-row.yielded_by _ c.in-Some.is c.next.ensures.steps in
+    let m = count_yes g.T.Owned.owned c.args.owner c.args.rows.now (length c.loop-row.yielded) c.in-Some.row.now t.0 (t.2 c.in-Some.row.now) (sym c.owner.ensures ∙ c.if-owner.true) in
+    absurd (omega (arith, m, c.loop-row.invariant.1, c.in_default.ensures.steps.0))
