@@ -4,13 +4,19 @@ ghost use Rattle.terms.specs.declared.refusal.Refusal.{Refusal};
 ghost use Rattle.division.specs.Limits.{Divided};
 ghost use Rattle.division.specs.Signed.{DividedSigned};
 
-use crate::draws::{Draws, DrawsRows};
+use crate::draws::{Draws, DrawsRows, draw_rows};
 use crate::rule::Rule;
 use crate::text::Spaced;
 use division::DivisionRule;
 use division::signed::divide_signed;
 use std::{fmt, io};
+use tables::Table;
 use terms::refusal::Refusal;
+
+// A case has at most so many claims, and a buffer of at most one place more.
+const MOST_CLAIMS: usize = 12;
+
+const MOST_ROOM: usize = 13;
 
 // Two claims of 2^63 wrap round to 0.
 const HUGE: u64 = 9_223_372_036_854_775_808;
@@ -102,7 +108,7 @@ fn draw_magnitude(draws: &mut Draws, kind: u64) -> u64
 }
 
 // What a case divides: its parts are numbers like it.
-pub trait Whole: Copy + fmt::Display + From<u8> {
+pub trait Whole: Copy + fmt::Display {
     // what a division of the whole by a rule leaves of a buffer
     ghost divided: { Self → (ℕ → List ℕ → List ℕ) → List ℕ → List Self → List Self → Result (Unit {0}) Refusal → Type 0 };
 
@@ -182,20 +188,33 @@ fn show_division<W: fmt::Display>(
     )
 }
 
-// One division: the parts, or the refusal's number with the buffer as it was left.
-pub fn case<W: Whole>(rt: HostRuntime, case: u64) -> io::Result<()> {
+// One division into as many places of the space as the case has room: the parts, or the refusal's number with the buffer as it was left.
+fn show_case<W: Whole>(rt: HostRuntime, case: u64, space: &mut [W; MOST_ROOM]) -> io::Result<()> {
     let mut draws = Draws::of_case(case);
     let division = Division::draw(&mut draws);
     let whole = W::draw(&mut draws);
-    let claims = division
-        .claims
-        .rows(rt.alloc(), division.count, &mut draws)?;
-    let mut buffer = vec![in rt.alloc(); W::from(9); division.room]?;
-    let outcome = whole.divide_by(&division.rule, &claims, &mut buffer);
-    show_division(rt, case, &division, &whole, &claims)?;
+    let claims: Table<u64, MOST_CLAIMS> = draw_rows(
+        &division.claims,
+        division.count,
+        0,
+        &mut draws,
+    );
+    let buffer = &mut space[..division.room];
+    let outcome = whole.divide_by(&division.rule, claims.as_slice(), buffer);
+    show_division(rt, case, &division, &whole, claims.as_slice())?;
     match outcome {
         Ok(()) => print!(rt; ": parts")?,
         Err(refusal) => print!(rt; ": refused {}, buffer", refusal.number())?,
     }
-    println!(rt; "{}", Spaced(&buffer))
+    println!(rt; "{}", Spaced(buffer))
+}
+
+// One division of a whole from 0 up.
+pub fn unsigned_case(rt: HostRuntime, case: u64) -> io::Result<()> {
+    show_case(rt, case, &mut [9_u64; MOST_ROOM])
+}
+
+// One division of a signed whole.
+pub fn signed_case(rt: HostRuntime, case: u64) -> io::Result<()> {
+    show_case(rt, case, &mut [9_i64; MOST_ROOM])
 }

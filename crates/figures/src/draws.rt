@@ -1,9 +1,10 @@
 // The generator that every case is made with, and rows drawn one by one.
-ghost use Rattle.std.specs.Prelude.{◌≡◌, ◌^◌, ◌<◌, ◌≤◌, length, IfOk};
+ghost use Rattle.std.specs.Prelude.{◌≡◌, ◌^◌, ◌<◌, ◌≤◌, length};
 ghost use Rattle.std.specs.List.{AllByRecursion};
+ghost use Rattle.tables.specs.Listed.{listed};
 ghost use Rattle.figures.specs.Drawn.{stepped, mixed, drawn, figure};
 
-use std::alloc::{AllocError, Global};
+use tables::Table;
 
 const FACTOR: u64 = 6_364_136_223_846_793_005;
 
@@ -76,26 +77,28 @@ impl Draws {
 
 // What draws rows, by the place that a row is to stand at; every row is fine.
 // Every row is drawn by its place from the draws of its case, so both go to every pattern.
-pub trait DrawsRows<T: Drop> {
+pub trait DrawsRows<T> {
     ghost fine: { Self → T → Type 0 };
 
     fn row(&self, place: usize, draws: &mut Draws) -> T
         ensures { fine self.now result };
+}
 
-    // So many rows, drawn in order. As a chain, (0..count).map(..).collect(alloc), it does not prove that they are fine: the closure changes the draws.
-    final fn rows(
-        &self,
-        alloc: Global,
-        count: usize,
-        draws: &mut Draws,
-    ) -> Result<Vec<T>, AllocError>
-        ensures count { IfOk result (λ rows. length rows.items ≡ count) }
-        ensures fine { IfOk result (λ rows. AllByRecursion (fine self.now) rows.items) }
-    {
-        let mut rows = Vec::new(alloc);
-        for place in 0..count {
-            rows.push(self.row(place, draws))?;
-        }
-        Ok(rows)
+// So many rows, drawn in order; the blank row fills the other places. As a chain it does not prove that they are fine: the closure changes the draws.
+// A table and no vector: what is drawn has a most number of rows, and so no case can run out of memory for it.
+pub fn draw_rows<T: Copy, P: DrawsRows<T>, const N: usize>(
+    pattern: &P,
+    count: usize,
+    blank: T,
+    draws: &mut Draws,
+) -> Table<T, N>
+    requires { count ≤ N }
+    ensures count { length (listed result) ≡ count }
+    ensures fine { AllByRecursion (P.DrawsRows.fine pattern.now) (listed result) }
+{
+    let mut rows = Table::new(blank);
+    for place in 0..count {
+        rows.push(pattern.row(place, draws));
     }
+    rows
 }

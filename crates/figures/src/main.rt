@@ -28,8 +28,8 @@ fn show_each<F: Fn(HostRuntime, u64) -> io::Result<()>>(
 }
 
 fn main(rt: HostRuntime) -> io::Result<()> {
-    show_each(rt, 1001..1071, dividing::case::<u64>)?;
-    show_each(rt, 2001..2071, dividing::case::<i64>)?;
+    show_each(rt, 1001..1071, dividing::unsigned_case)?;
+    show_each(rt, 2001..2071, dividing::signed_case)?;
     show_each(rt, 3001..3071, trading::case)?;
     show_each(rt, 4001..4071, plans::case)?;
     show_each(rt, 5001..5071, curtailing::case)?;

@@ -1,13 +1,19 @@
 // Meters: tables of both kinds, read meter by meter, and an owner's metered demand by them.
 ghost use Rattle.std.specs.Prelude.{◌≤◌};
 
-use crate::draws::{Draws, DrawsRows};
+use crate::draws::{Draws, DrawsRows, draw_rows};
 use crate::text::Spaced;
 use metering::demand::metered_demand;
 use metering::half_hour::{HalfHourRow, HalfHourTable};
 use metering::register::{RegisterRow, RegisterTable};
 use metering::source::MeterSource;
 use std::io;
+use tables::Table;
+
+// A table has at most so many rows, and an owner at most so many places.
+const MOST_ROWS: usize = 8;
+
+const MOST_PLACES: usize = 4;
 
 // The meters that are read.
 const ASKED: [u32; 6] = [0, 1, 2, 3, 99_999, 100_000];
@@ -117,37 +123,50 @@ impl DrawsRows<u32> for Owner {
 fn show_source<S: MeterSource>(rt: HostRuntime, source: &S, draws: &mut Draws) -> io::Result<()> {
     show_readings(rt, source)?;
     let owner = Owner::draw(draws);
-    let meters = owner.rows(rt.alloc(), owner.count, draws)?;
+    let meters: Table<u32, MOST_PLACES> = draw_rows(&owner, owner.count, 0, draws);
     print!(rt;
         "; multiplier {}, places{}",
         owner.multiplier,
-        Spaced(&meters)
+        Spaced(meters.as_slice())
     )?;
-    match metered_demand(source, &meters, owner.multiplier) {
+    match metered_demand(source, meters.as_slice(), owner.multiplier) {
         Ok(demand) => print!(rt; ": demand {demand}"),
         Err(unread) => print!(rt; ": without {}", unread.meter),
     }
 }
 
 // A half-hour table. It and the register table differ in how a row is drawn and how it is printed: one function that took both would be longer than the two.
-fn half_hour_case(rt: HostRuntime, count: usize, draws: &mut Draws) -> io::Result<()> {
-    let rows = HalfHours.rows(rt.alloc(), count, draws)?;
-    for row in &rows {
+fn half_hour_case(rt: HostRuntime, count: usize, draws: &mut Draws) -> io::Result<()>
+    requires { count ≤ 8 }
+{
+    let blank = HalfHourRow { number: 0, kwh: 0 };
+    let rows: Table<HalfHourRow, MOST_ROWS> = draw_rows(&HalfHours, count, blank, draws);
+    for row in rows.as_slice() {
         print!(rt; "; row {} {}", row.number, row.kwh)?;
     }
-    show_source(rt, &HalfHourTable::new(rows), draws)
+    let table = HalfHourTable::new(rows.as_slice().to_vec(rt.alloc())?);
+    show_source(rt, &table, draws)
 }
 
 // A register table.
-fn register_case(rt: HostRuntime, count: usize, draws: &mut Draws) -> io::Result<()> {
-    let rows = Registers.rows(rt.alloc(), count, draws)?;
-    for row in &rows {
+fn register_case(rt: HostRuntime, count: usize, draws: &mut Draws) -> io::Result<()>
+    requires { count ≤ 8 }
+{
+    let blank = RegisterRow {
+        number: 0,
+        start: 0,
+        end: 0,
+        factor: 0,
+    };
+    let rows: Table<RegisterRow, MOST_ROWS> = draw_rows(&Registers, count, blank, draws);
+    for row in rows.as_slice() {
         print!(rt;
             "; row {} {} {} {}",
             row.number, row.start, row.end, row.factor
         )?;
     }
-    show_source(rt, &RegisterTable::new(rows), draws)
+    let table = RegisterTable::new(rows.as_slice().to_vec(rt.alloc())?);
+    show_source(rt, &table, draws)
 }
 
 // One table of either kind.

@@ -1,25 +1,39 @@
 // Plans on two levels: three contracts, five groups of both sorts and up to ten shares.
-ghost use Rattle.std.specs.Prelude.{◌≡◌, ◌+◌, ◌≤◌};
+ghost use Rattle.std.specs.Prelude.{◌≡◌, ◌+◌, ◌≤◌, length};
 ghost use Rattle.std.specs.List.{AllByRecursion};
 ghost use Rattle.terms.specs.Plans.{plan_of};
 ghost use Rattle.sharing.specs.Levels.{Apart};
-ghost use Rattle.figures.specs.Rows.{share_fine, homed};
+ghost use Rattle.planning.specs.All.{PlansCorrected};
+ghost use Rattle.figures.specs.Rows.{share_fine, homed, of_kind, contracts};
+ghost use Rattle.figures.specs.Rules.{parts_by};
 
-use crate::draws::{Draws, DrawsRows};
+use crate::draws::{Draws, DrawsRows, draw_rows};
 use crate::rule::Rule;
 use crate::trading::{Trades, draw_most};
 use planning::all::correct_plans;
 use planning::holdings::Holdings;
 use planning::plan::group_plan;
 use std::io;
+use tables::Table;
 use terms::codes::{Kind, Method};
 use terms::records::{Contract, Curtailment, Group, GroupSort, Share};
+use trades::corrected::CorrectedLines;
 
-// A case has five groups.
+// A case has five groups and at most so many shares.
 const GROUPS: usize = 5;
 
+const MOST_SHARES: usize = 10;
+
+// A share that stands where none was drawn.
+const NO_SHARE: Share = Share {
+    group: 21,
+    plant: 31,
+    rank: 1,
+    planned: 0,
+};
+
 fn contract(number: u32, kind: Kind) -> Contract
-    ensures { result.number ≡ number }
+    ensures { result ≡ of_kind number kind }
 {
     Contract {
         number,
@@ -139,11 +153,34 @@ impl DrawsRows<Share> for PlanPattern {
         };
         Share {
             group: (21 + self.first + 2 * turn) as u32,
-            plant: 31 + (place % 10) as u32,
+            plant: 31 + (place % MOST_SHARES) as u32,
             rank: 1,
             planned,
         }
     }
+}
+
+// Corrects the plans of the three contracts.
+fn correct(
+    first: Rule,
+    second: Rule,
+    kind: Kind,
+    trades: &CorrectedLines,
+    holdings: &Holdings,
+    parts: &mut [i64],
+    plans: &mut [i64],
+)
+    requires groups { length parts.old ≡ length holdings.now.groups.now }
+    requires shares { length plans.old ≡ length holdings.now.shares.now }
+    ensures { PlansCorrected (parts_by first) (parts_by second) (contracts kind) trades.now.lines.now trades.now.figures.now
+        holdings.now.groups.now holdings.now.shares.now parts.old parts.new plans.old plans.new }
+{
+    let contracts = [
+        contract(11, Kind::Generation),
+        contract(12, kind),
+        contract(13, Kind::Negawatt),
+    ];
+    correct_plans(&first, &second, &contracts, trades, holdings, parts, plans);
 }
 
 // A group and its plan.
@@ -169,36 +206,32 @@ pub fn case(rt: HostRuntime, case: u64) -> io::Result<()> {
     let mut draws = Draws::of_case(case);
     let first = Rule::draw(&mut draws);
     let second = Rule::draw(&mut draws);
-    let trades = Trades::draw(rt.alloc(), &mut draws)?;
+    let trades = Trades::draw(&mut draws);
     let pattern = PlanPattern::draw(&mut draws);
-    let contracts = [
-        contract(11, Kind::Generation),
-        contract(12, pattern.second),
-        contract(13, Kind::Negawatt),
-    ];
     let groups = pattern.groups(&mut draws);
     let count = 3 + draws.below(8) as usize;
-    let shares = pattern.rows(rt.alloc(), count, &mut draws)?;
+    let shares: Table<Share, MOST_SHARES> = draw_rows(&pattern, count, NO_SHARE, &mut draws);
     let holdings = Holdings {
         groups: &groups,
         shares: shares.as_slice(),
     };
     let mut parts = [0; GROUPS];
-    let mut plans = vec![in rt.alloc(); 0; count]?;
-    correct_plans(
-        &first,
-        &second,
-        &contracts,
+    let mut space = [0; MOST_SHARES];
+    let plans = &mut space[..count];
+    correct(
+        first,
+        second,
+        pattern.second,
         &trades.corrected(),
         &holdings,
         &mut parts,
-        &mut plans,
+        plans,
     );
     print!(rt; "{case} plans: {first}, then {second}{trades}")?;
     for (group, part) in groups.iter().zip(&parts) {
         show_group(rt, group, group_plan(group, *part))?;
     }
-    for (share, plan) in shares.iter().zip(&plans) {
+    for (share, plan) in shares.as_slice().iter().zip(plans.iter()) {
         print!(rt;
             "; share of {} at {}, planned {}: {plan}",
             share.group, share.plant, share.planned

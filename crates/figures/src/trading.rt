@@ -1,18 +1,31 @@
 // Corrected trades among three contracts, the exchange and outside parties.
-ghost use Rattle.std.specs.Prelude.{◌≡◌, ◌<◌, ◌≤◌, false, length, ◌≢◌};
+ghost use Rattle.std.specs.Prelude.{◌≡◌, ◌<◌, ◌≤◌, false, map, length, ◌≢◌};
 ghost use Rattle.std.specs.List.{AllByRecursion};
-ghost use Rattle.trades.specs.Trades.{faces};
+ghost use Rattle.tables.specs.Listed.{listed};
+ghost use Rattle.trades.specs.Trades.{faces, corrected};
 ghost use Rattle.std.proofs.Props.{props};
 ghost use Rattle.figures.specs.Rows.{line_fine, homed};
 
-use crate::draws::{Draws, DrawsRows};
-use std::alloc::{AllocError, Global};
+use crate::draws::{Draws, DrawsRows, draw_rows};
 use std::{fmt, io};
+use tables::Table;
 use terms::codes::Direction;
 use terms::partner::Partner;
 use terms::records::Line;
 use trades::corrected::CorrectedLines;
 use trades::lines::correct_lines;
+
+// A case has at most so many lines.
+pub const MOST_LINES: usize = 12;
+
+// A line that stands where none was drawn.
+pub const BLANK: Line = Line {
+    contract: 11,
+    direction: Direction::Sale,
+    partner: Partner::Exchange,
+    planned: 0,
+    agreed: 0,
+};
 
 // So many keys can be drawn.
 const KEYS: u64 = 30;
@@ -31,8 +44,8 @@ pub fn draw_most(draws: &mut Draws) -> u32
 
 // How many lines a case has, which keys they have and what their figures go up to.
 #[derive(Clone, Copy)]
-struct LinePattern {
-    count: usize,
+pub struct LinePattern {
+    pub count: usize,
     start: u64,
     stride: u64,
     most: u32,
@@ -43,7 +56,7 @@ struct LinePattern {
 }
 
 impl LinePattern {
-    fn draw(draws: &mut Draws) -> LinePattern {
+    pub fn draw(draws: &mut Draws) -> LinePattern {
         let count = draws.below(16).min(12) as usize;
         let start = draws.below(KEYS);
         let stride = draw_stride(draws);
@@ -155,29 +168,43 @@ impl DrawsRows<Line> for LinePattern {
     }
 }
 
+// The corrected figures of a case's lines, in their order.
+fn correct(lines: &[Line]) -> Table<u32, MOST_LINES>
+    requires { length lines.now ≤ 12 }
+    ensures { listed result ≡ map (corrected lines.now) lines.now }
+{
+    let mut space = [0; MOST_LINES];
+    let figures = &mut space[..lines.len()];
+    correct_lines(lines, figures);
+    let mut corrected: Table<u32, MOST_LINES> = Table::new(0);
+    for figure in figures.iter() {
+        corrected.push(*figure);
+    }
+    corrected
+}
+
 // The lines of a case, and their corrected figures.
 #[derive(Drop)]
 pub struct Trades {
-    pub lines: Vec<Line>,
-    pub figures: Vec<u32>,
-    ghost few: { length lines.items ≤ 12 },
-    ghost room: { length figures.items ≡ length lines.items },
-    ghost small: { AllByRecursion (λ f. f ≤ 2000000) figures.items } by { Prim.hlevel props },
+    pub lines: Table<Line, MOST_LINES>,
+    pub figures: Table<u32, MOST_LINES>,
+    ghost few: { length (listed lines) ≤ 12 },
+    ghost fine: { AllByRecursion line_fine (listed lines) } by { Prim.hlevel props },
+    ghost corrected: { listed figures ≡ map (corrected (listed lines)) (listed lines) },
 }
 
 impl Trades {
-    pub fn draw(alloc: Global, draws: &mut Draws) -> Result<Trades, AllocError> {
+    pub fn draw(draws: &mut Draws) -> Trades {
         let pattern = LinePattern::draw(draws);
-        let lines = pattern.rows(alloc, pattern.count, draws)?;
-        let mut figures = vec![in alloc; 0; lines.len()]?;
-        correct_lines(&lines, &mut figures);
-        Ok(Trades { lines, figures })
+        let lines = draw_rows(&pattern, pattern.count, BLANK, draws);
+        let figures = correct(lines.as_slice());
+        Trades { lines, figures }
     }
 
     // The lines with their figures, as the engine takes them.
     pub fn corrected(&self) -> CorrectedLines<'_>
-        ensures lines { result.lines.now ≡ self.now.lines.items }
-        ensures figures { result.figures.now ≡ self.now.figures.items }
+        ensures lines { result.lines.now ≡ listed self.now.lines }
+        ensures figures { result.figures.now ≡ listed self.now.figures }
     {
         CorrectedLines {
             lines: self.lines.as_slice(),
@@ -217,7 +244,7 @@ impl fmt::Display for Named {
 // Every line with its corrected figure.
 impl fmt::Display for Trades {
     fn fmt<W: fmt::Write>(&self, f: &mut fmt::Formatter<W>) -> fmt::Result {
-        for (line, figure) in self.lines.iter().zip(&self.figures) {
+        for (line, figure) in self.lines.as_slice().iter().zip(self.figures.as_slice()) {
             let trade = match line.direction {
                 Direction::Sale => "sells to",
                 Direction::Purchase => "buys from",
@@ -237,7 +264,7 @@ impl fmt::Display for Trades {
 
 // One list of trades.
 pub fn case(rt: HostRuntime, case: u64) -> io::Result<()> {
-    let trades = Trades::draw(rt.alloc(), &mut Draws::of_case(case))?;
+    let trades = Trades::draw(&mut Draws::of_case(case));
     print!(rt; "{case} trades{trades}")?;
     trades.show_balances(rt)?;
     println!(rt; "")
