@@ -132,7 +132,7 @@ fn list_lines<T: Claimant>(
     let mut left = claims.iter();
     for (row, figure) in rows.iter().zip(figures) {
         if row.owner() == owner {
-            // there is one, as is proved: an `unwrap` would leave a way out of the loop, past which the table is cleared and copied once more
+            // there is one, as is proved; with an `unwrap` in place of the test the program copies the table once more
             if let Some(claim) = left.next() {
                 lines.push(work_out_part(
                     whole,
